@@ -1,0 +1,4 @@
+pub mod Lowest
+pub mod Counting
+pub mod Digits
+pub mod SetOf

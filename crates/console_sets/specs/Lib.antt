@@ -1,0 +1,3 @@
+pub mod Bound
+pub mod Sets
+pub mod Laws

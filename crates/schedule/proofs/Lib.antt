@@ -1,0 +1,9 @@
+mod Parted
+mod Digits
+mod Front
+mod NextLine
+mod Same
+mod Each
+mod Rig
+mod Rows
+mod Words
