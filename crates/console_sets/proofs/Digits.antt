@@ -1,5 +1,5 @@
 -- A number's binary digits as a set: the members of what the operations on numbers give, and the count of ones.
-use Prim.Native.Nat.{ℕ, zero, suc, _+_, _-_, _/_, _%_, _^_, _≤_, _<_}
+use Prim.Native.Nat.{ℕ, zero, suc, _-_, _/_, _%_, _^_, _≤_, _<_}
 use mathlib.Core.Path.{_≡_, refl, sym, ap, ap₂, _∙_}
 use mathlib.Core.Bool.{Bool, true, false, not, _&&_, _||_}
 use mathlib.Core.Logic.{inl, inr}
@@ -9,7 +9,7 @@ use native.Mathlib.Numerals.{one-add}
 use lib.Dec.{eqb, ltb}
 use lib.Arith.{lt-one}
 use lib.Pow.{shr-shr, pow-pos, pow-mono}
-use lib.Bits.{bitAnd, bitOr, bitXor, and-shr, or-shr, xor-shr, and-mod, or-mod, xor-mod, and-le-l, and-le-r, xor-lt}
+use lib.Bits.{bitAnd, bitOr, bitXor, and-shr, or-shr, xor-shr, and-mod, or-mod, xor-mod, and-le-l, and-le-r, xor-lt, and-zero-r, xor-zero-r}
 use lib.Count.{ones, ones-step}
 use Rattle.std.proofs.shelf.Tests.{ne-eqb, eq-eqb, cases-eq, cases-lt, lt-ltb, le-ltb, eqb-true, both-ways}
 use Rattle.console_sets.specs.Sets.{one, count, member, all, inside, union, without, joined}
@@ -187,3 +187,6 @@ inside-all n a h = inside-lt n a (all n) h (omega (arith, pow-pos n))
 
 pub without-lt : (n a b : ℕ) → a < 2 ^ n → without a b < 2 ^ n
 without-lt n a b l = xor-lt n a (bitAnd a b) l (omega (arith, and-le-l a b))
+
+pub without-none : (a : ℕ) → without a 0 ≡ a
+without-none a = ap (bitXor a) (and-zero-r a) ∙ xor-zero-r a

@@ -1,4 +1,4 @@
--- Sets of consoles, as tests of indices and as numbers, and what is asked of them, at any number of consoles.
+-- Sets of consoles, as tests of indices and as numbers, so that contracts can say which consoles and how many. No width is fixed here.
 -- Index c, from 0, stands for the console c + 1, and in a number for the binary digit worth 2 ^ c.
 use Prim.Native.Nat.{ℕ, zero, suc, _+_, _-_, _*_, _/_, _%_, _^_}
 use mathlib.Core.Bool.{Bool, true, false, cond}
@@ -28,6 +28,8 @@ member s c = eqb (s / 2 ^ c % 2) 1
 unfoldable pub set-of : (ℕ → Bool) → ℕ → ℕ
 set-of p zero = 0
 set-of p (suc n) = one (p n) * 2 ^ n + set-of p n
+
+-- ---- sets by their digits; the laws of `Membership` say which members each has
 
 -- the set of the consoles 1 to n
 abbrev pub all : ℕ → ℕ

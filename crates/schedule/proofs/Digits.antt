@@ -14,7 +14,7 @@ use Rattle.std.proofs.shelf.Tests.{and-parts, and-left, and-right, and-from, lt
 use Rattle.std.specs.declared.option.Option.the-variants.{Some, None}
 use Rattle.schedule.specs.Numbers.{placed, each, digit, is-digit, value}
 
-value-cons : (base b : ℕ) (bs : List ℕ) → value base (b ∷ bs) ≡ digit b * base ^ length bs + value base bs
+pub value-cons : (base b : ℕ) (bs : List ℕ) → value base (b ∷ bs) ≡ digit b * base ^ length bs + value base bs
 value-cons base b bs = ap (λ (k : ℕ). digit b * base ^ k + value base bs) (length-map bs digit)
 
 -- what digits write behind the number v, from the left

@@ -1,9 +1,10 @@
-mod Parted
-mod Digits
-mod Front
-mod NextLine
-mod Same
-mod Each
-mod Rig
-mod Rows
-mod Words
+pub mod Parted
+pub mod Digits
+pub mod Front
+pub mod NextLine
+pub mod Same
+pub mod Each
+pub mod Rig
+pub mod Rows
+pub mod Words
+pub mod Texts

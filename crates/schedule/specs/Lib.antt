@@ -6,3 +6,4 @@ pub mod Lines
 pub mod Kinds
 pub mod Reading
 pub mod Refusals
+pub mod Texts

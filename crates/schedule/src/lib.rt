@@ -8,6 +8,7 @@ mod read;
 mod refusal;
 mod said;
 mod said_lines;
+mod theorems;
 
 pub use line::Line;
 pub use line::next_line;
@@ -21,3 +22,4 @@ pub use said::Proposals;
 pub use said::RigLine;
 pub use said::RoundLine;
 pub use said::Said;
+pub use theorems::one_text_for_each_value;

@@ -17,8 +17,8 @@ pub enum FileRefusal {
 }
 
 impl FileRefusal {
-    pub fn number(&self) -> u8
-        ensures { λ r. ⌜ r ≡ number-of (now (self .entry)) ⌝ }
+    pub fn number(self) -> u8
+        ensures { λ r. ⌜ r ≡ number-of self ⌝ }
     {
         match self {
             FileRefusal::LineLength { .. } => 15,
@@ -29,24 +29,24 @@ impl FileRefusal {
         }
     }
 
-    pub fn line(&self) -> u32
-        ensures { λ r. ⌜ r ≡ line-of (now (self .entry)) ⌝ }
+    pub fn line(self) -> u32
+        ensures { λ r. ⌜ r ≡ line-of self ⌝ }
     {
         match self {
             FileRefusal::LineLength { line }
             | FileRefusal::UnknownWord { line }
             | FileRefusal::FieldCount { line }
             | FileRefusal::BadField { line, .. }
-            | FileRefusal::Misplaced { line } => *line,
+            | FileRefusal::Misplaced { line } => line,
         }
     }
 
-    pub fn place(&self) -> u32
-        ensures { λ r. ⌜ r ≡ place-of (now (self .entry)) ⌝ }
+    pub fn place(self) -> u32
+        ensures { λ r. ⌜ r ≡ place-of self ⌝ }
     {
         match self {
             FileRefusal::UnknownWord { .. } => 1,
-            FileRefusal::BadField { place, .. } => *place,
+            FileRefusal::BadField { place, .. } => place,
             FileRefusal::LineLength { .. }
             | FileRefusal::FieldCount { .. }
             | FileRefusal::Misplaced { .. } => 0,

@@ -1,7 +1,6 @@
-use mathlib.Core.Path.{_≡_, sym, ap, _∙_}
+use mathlib.Core.Path.{sym, _∙_}
 use native.Mathlib.Omega.{arith}
 use native.Mathlib.Numerals.{add-one}
-use Rattle.console_sets.specs.Sets.{lowest}
 use Rattle.console_sets.proofs.Lowest.{is-lowest, zero-lowest}
 use Rattle.console_sets.proofs.searches.lowest_of.Needs as need
 

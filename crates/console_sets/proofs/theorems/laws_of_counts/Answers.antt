@@ -5,11 +5,11 @@ use Rattle.console_sets.proofs.theorems.laws_of_counts.Needs as need
 
 pub returns : need.returns
 returns c = record {
-  subset = count-mono;
-  strict-superset = count-strict;
-  complement = count-not;
-  in-common = shared;
-  digits = ones-count;
-  least = lowest-is;
-  no-least = lowest-zero;
+  subset-counts-no-more = count-mono;
+  superset-counts-more = count-strict;
+  complement-counts-the-rest = count-not;
+  more-than-all-share-one = shared;
+  ones-are-members = ones-count;
+  lowest-is-least = lowest-is;
+  no-lowest-no-member = lowest-zero;
 }

@@ -4,14 +4,14 @@ use Rattle.console_sets.proofs.theorems.laws_of_members.Needs as need
 
 pub returns : need.returns
 returns c = record {
-  of-none = member-none;
-  beyond = member-above;
-  of-all = member-all;
-  of-union = member-union;
-  of-without = member-without;
-  of-joined = member-joined;
-  of-test = member-set-of;
-  of-inside = member-inside;
-  inside-from = inside-from;
-  same-members = member-ext;
+  empty-has-none = member-none;
+  none-beyond = member-above;
+  all-has-those-below = member-all;
+  union-has-either = member-union;
+  without-has-the-rest = member-without;
+  joined-has-one-more = member-joined;
+  set-of-has-those-that-pass = member-set-of;
+  inside-has-no-others = member-inside;
+  inside-if-no-others = inside-from;
+  same-members-same-set = member-ext;
 }
