@@ -1,5 +1,7 @@
 // Reads a schedule on standard input to its end and prints what it found.
 mod stop;
+#[cfg(test)]
+mod tests;
 mod through;
 
 ghost use Prim.Native.Nat.{_≤_};

@@ -8,6 +8,8 @@ mod read;
 mod refusal;
 mod said;
 mod said_lines;
+#[cfg(test)]
+mod tests;
 mod theorems;
 
 pub use line::Line;
