@@ -2,10 +2,12 @@
 ghost use mathlib.Core.Path.{_≡_};
 ghost use mathlib.Core.Bool.{true};
 ghost use Prim.Native.Nat.{ℕ};
+ghost use lib.Dec.{leb};
+ghost use lib.ListN.{length};
 ghost use mathlib.Core.List.{List};
 ghost use Rattle.std.specs.declared.option.Option.the-variants.{Some, None};
 ghost use Rattle.schedule.specs.Parts.{starts};
-ghost use Rattle.schedule.specs.Lines.{IsLine};
+ghost use Rattle.schedule.specs.Lines.{IsLine, longest-line};
 ghost use Rattle.schedule.specs.Kinds.{Apart};
 use crate::parts::cut;
 
@@ -21,13 +23,20 @@ pub enum Line<'a> {
     Close { fields: &'a [u8], line: u32 },
 }
 
+// Whether the bytes are few enough for a line.
+fn is_short(line: &[u8]) -> bool
+    ensures { λ r. ⌜ r ≡ leb (length (now (line .entry))) longest-line ⌝ }
+{
+    line.len() <= MAX_LINE
+}
+
 // The next line and what is left behind its line feed; none where it is too long or has no line feed.
 pub fn next_line(input: &[u8]) -> Option<(&[u8], &[u8])>
     ensures { λ r. ⌜ elim r [ Some p ↦ IsLine (now (input .entry)) (now (p .0)) (now (p .1)) | None ↦ ((line rest : List ℕ) → IsLine (now (input .entry)) line rest → ⊥) ] ⌝ }
 {
     let (line, rest) = cut(input, b'\n');
     match rest {
-        [b'\n', rest @ ..] if line.len() <= MAX_LINE => Some((line, rest)),
+        [b'\n', rest @ ..] if is_short(line) => Some((line, rest)),
         _ => None,
     }
 }

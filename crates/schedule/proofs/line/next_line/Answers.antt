@@ -1,10 +1,11 @@
 use borrow.Author.Needs.{needs}
 use native.Mathlib.Omega.{arith}
+use mathlib.Core.Path.{sym}
 use Rattle.schedule.proofs.NextLine.{is-line, one-line}
 use Rattle.schedule.proofs.line.next_line.Needs as need
 
 pub returns-in-10 : need.returns-in-10
-returns-in-10 c = search (needs, is-line)
+returns-in-10 c = let short = sym (c .if-is-short .ensures tt) in search (needs, is-line)
 
 pub returns-in-rest : need.returns-in-rest
 returns-in-rest c = λ a b h.
