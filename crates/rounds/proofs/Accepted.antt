@@ -1,5 +1,5 @@
 -- What accepted calls and steady rounds are known to have.
-use Prim.Native.Nat.{ℕ, _+_, _-_, _^_, _≤_, _<_}
+use Prim.Native.Nat.{ℕ, _+_, _-_, _*_, _^_, _≤_, _<_}
 use mathlib.Core.Path.{_≡_, refl, sym, ap, _∙_}
 use mathlib.Core.Logic.{inl, inr}
 use mathlib.Core.Bool.{Bool, true, false, not, cond, _&&_, _||_}
@@ -11,19 +11,26 @@ use lib.Dec.{eqb, leb, ltb}
 use lib.ListN.{length}
 use Rattle.std.specs.declared.option.Option.{Option}
 use Rattle.std.specs.declared.option.Option.the-variants.{Some, None}
-use Rattle.std.proofs.shelf.Tests.{cases-bool, and-parts, eqb-true, eq-eqb, leb-true, leb-false, not-false}
+use Rattle.std.specs.declared.result.Result.the-variants.{Ok}
+use Rattle.std.proofs.shelf.Tests.{cases-bool, and-parts, or-parts, eqb-true, eqb-false, eq-eqb, leb-true, leb-false, ltb-false, not-false}
 use Rattle.std.proofs.shelf.Ways.{tells}
+use Rattle.console_sets.specs.Bound.{max-consoles}
 use Rattle.console_sets.specs.Sets.{count, member, lowest, inside, all, without}
 use Rattle.console_sets.proofs.Lowest.{lowest-zero, zero-lowest}
 use Rattle.console_sets.proofs.Digits.{ones-count, member-without, member-inside, member-below, inside-lt, inside-all, without-lt}
-use Rattle.rounds.specs.Bound.{max-rounds}
+use Rattle.rounds.specs.Bound.{min-consoles, max-rounds}
 use Rattle.rounds.specs.Items.{at}
-use Rattle.rounds.specs.Refusals.{refused, refused-at}
+use Rattle.rounds.specs.Refusals.{refused, refused-at, either, answer}
 use Rattle.rounds.specs.Rounds.{quorum, completing, bad-entry, bad-row, short-row, uneven-row, steady-round, Truthful}
-use Rattle.rounds.specs.Checks.{start-refusal, round-refusal}
-use Rattle.rounds.specs.Laws.{Start-ok, Round-ok, Steady}
+use Rattle.rounds.specs.Checks.{size-refusal, make-refusal, start-refusal, round-refusal}
+use Rattle.rounds.specs.Laws.{Size-ok, Start-ok, Round-ok, Steady}
 use Rattle.rounds.specs.declared.refusals.Refusal.{Refusal}
-use Rattle.rounds.specs.declared.refusals.Refusal.the-variants.{BadItem, ShortRow}
+use Rattle.rounds.specs.declared.refusals.Refusal.the-variants.{Consoles, Tolerance, NotServed, BadItem, ShortRow}
+
+-- a call that was not refused
+pub accepted : (refusal : Option Refusal) → Ok tt ≡ answer refusal → refusal ≡ None
+accepted None e = refl
+accepted (Some r) e = absurd (let z : _≡_ {A = ℕ} 0 1 = cc in omega arith)
 
 -- a condition that did not refuse
 past : (test : Bool) (e : Refusal) (rest : Option Refusal) → refused test e rest ≡ None → (test ≡ false) × (rest ≡ None)
@@ -36,6 +43,27 @@ past-at console e rest h =
       | inl t ↦ (eqb-true console 0 t, sym (ap (λ (b : Bool). cond b rest (Some (e console))) t) ∙ h)
       | inr f ↦ absurd (let r : Some (e console) ≡ None = sym (ap (λ (b : Bool). cond b rest (Some (e console))) f) ∙ h in let z : _≡_ {A = ℕ} 0 1 = cc in omega arith)
     ]
+
+pub size-ok : (n t : ℕ) → size-refusal n t ≡ None → Size-ok n t
+size-ok n t e =
+    let a = past (ltb n min-consoles || ltb max-consoles n) Consoles _ e in
+    let b = past (eqb t 0 || leb n (2 * t)) Tolerance None (a .1) in
+    let bounds = or-parts (ltb n min-consoles) (ltb max-consoles n) (a .0) in
+    let falls = or-parts (eqb t 0) (leb n (2 * t)) (b .0) in
+    let some : t ≡ 0 → ⊥ = eqb-false t 0 (falls .0) in
+    record {
+      least = ltb-false n min-consoles (bounds .0);
+      most = ltb-false max-consoles n (bounds .1);
+      some = omega arith;
+      half = leb-false n (2 * t) (falls .1);
+    }
+
+pub make-ok : (serves : Bool) (n t : ℕ) → make-refusal serves n t ≡ None → (serves ≡ true) × Size-ok n t
+make-ok serves n t e = both (size-refusal n t) refl e
+  where
+    both : (size : Option Refusal) → size-refusal n t ≡ size → either size (refused (not serves) NotServed None) ≡ None → (serves ≡ true) × Size-ok n t
+    both None s h = (not-false serves (past (not serves) NotServed None h .0), size-ok n t s)
+    both (Some r) s h = absurd (let z : _≡_ {A = ℕ} 0 1 = cc in omega arith)
 
 -- a quorum of the n
 enough : (n t set : ℕ) → set < 2 ^ n → quorum n t set ≡ true → n ≤ count (member set) n + t

@@ -1,15 +1,24 @@
 -- What is known of calls that are accepted, and of steady rounds, in every setting.
-use Prim.Native.Nat.{ℕ, _+_, _^_, _≤_, _<_}
+use Prim.Native.Nat.{ℕ, _+_, _*_, _^_, _≤_, _<_}
 use mathlib.Core.Path.{_≡_}
-use mathlib.Core.Bool.{true, false}
+use mathlib.Core.Bool.{Bool, true, false}
 use mathlib.Core.List.{List}
 use lib.ListN.{length}
 use Rattle.std.specs.declared.option.Option.the-variants.{None}
+use Rattle.console_sets.specs.Bound.{max-consoles}
 use Rattle.console_sets.specs.Sets.{count, member}
-use Rattle.rounds.specs.Bound.{max-rounds}
+use Rattle.rounds.specs.Bound.{min-consoles, max-rounds}
 use Rattle.rounds.specs.Items.{at}
 use Rattle.rounds.specs.Rounds.{completing, steady-round, Truthful}
-use Rattle.rounds.specs.Checks.{start-refusal, round-refusal}
+use Rattle.rounds.specs.Checks.{size-refusal, make-refusal, start-refusal, round-refusal}
+
+-- n and t that a group can have
+pub record Size-ok (n t : ℕ) : Type 0 where
+  pub least : min-consoles ≤ n
+  pub most : n ≤ max-consoles
+  -- some may fall, and fewer than half
+  pub some : 0 < t
+  pub half : 2 * t < n
 
 -- an accepted start
 pub record Start-ok (n t running : ℕ) (entries : List ℕ) : Type 0 where
@@ -45,12 +54,16 @@ pub record Round-ok (n t running rounds falls : ℕ) (rows : List ℕ) : Type 0 
 
 -- a steady round
 pub record Steady (running falls : ℕ) (rows : List ℕ) : Type 0 where
+  -- nobody falls, so that all who ran complete it
   pub nobody : falls ≡ 0
   pub all-complete : completing running falls ≡ running
+  -- each of them heard exactly the running consoles
   pub even : (c : ℕ) → member running c ≡ true → at rows c ≡ running
 
 -- each check accepts only such calls
 pub record Checks : Type 0 where
+  pub size-ok : (n t : ℕ) → size-refusal n t ≡ None → Size-ok n t
+  pub make-ok : (serves : Bool) (n t : ℕ) → make-refusal serves n t ≡ None → (serves ≡ true) × Size-ok n t
   pub start-ok : (n t running : ℕ) (entries : List ℕ) → start-refusal n t running entries ≡ None → Start-ok n t running entries
   pub round-ok : (n t running rounds falls : ℕ) (rows : List ℕ) → running < 2 ^ n
       → round-refusal n t running rounds falls rows ≡ None → Round-ok n t running rounds falls rows

@@ -8,7 +8,7 @@ use Rattle.std.specs.declared.option.Option.the-variants.{Some, None}
 use Rattle.std.specs.declared.result.Result.{Result}
 use Rattle.std.specs.declared.result.Result.the-variants.{Ok, Err}
 use Rattle.rounds.specs.declared.refusals.Layer.{Layer}
-use Rattle.rounds.specs.declared.refusals.Layer.the-variants.{File, Rig, Back}
+use Rattle.rounds.specs.declared.refusals.Layer.the-variants.{Rig, Back}
 use Rattle.rounds.specs.declared.refusals.Refusal.{Refusal}
 use Rattle.rounds.specs.declared.refusals.Refusal.the-variants.{Consoles, Tolerance, NotServed, PressOpen, BookFull, ProposalCount, WrongTicket, RoundLimit, ItemCount, OutsideMember, TooFewRunning, BadItem, ShortRow, NoSuch}
 

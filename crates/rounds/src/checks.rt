@@ -1,20 +1,24 @@
 // The checks that calls meet, each refusing with the first number that fits, and whether a round is steady.
 ghost use mathlib.Core.Path.{_≡_};
-ghost use denote.Ref.{now};
 ghost use Rattle.rounds.specs.Refusals.{answer};
-ghost use Rattle.rounds.specs.Rounds.{bad-entry, bad-row, short-row, uneven-row, steady-round};
+ghost use Rattle.rounds.specs.Rounds.{steady-round};
 ghost use Rattle.rounds.specs.Checks.{size-refusal, make-refusal, start-refusal, round-refusal, console-refusal};
 use crate::MAX_ROUNDS;
 use crate::MIN_CONSOLES;
-use crate::items::item_or;
+use crate::faults::BadEntry;
+use crate::faults::BadEntryTest;
+use crate::faults::BadRow;
+use crate::faults::BadRowTest;
+use crate::faults::NoQuorum;
+use crate::faults::NoQuorumTest;
+use crate::faults::Uneven;
+use crate::faults::UnevenTest;
 use crate::refusals::Refusal;
 use crate::sets::is_known;
 use crate::sets::is_quorum;
 use console_sets::ConsoleSet;
 use console_sets::MAX_CONSOLES;
-use console_sets::Test;
 use console_sets::difference;
-use console_sets::has;
 use console_sets::is_within;
 use console_sets::lowest_of;
 
@@ -133,76 +137,4 @@ pub fn is_steady(n: u8, running: ConsoleSet, falls: ConsoleSet, rows: &[ConsoleS
     ensures { λ r. ⌜ r ≡ steady-round n running falls (now (rows .entry)) ⌝ }
 {
     (falls == 0) & (lowest_of(&Uneven { running, rows }, n) == 0)
-}
-
-// A console that runs and whose entry is not a console's number.
-#[derive(Clone, Copy)]
-struct BadEntry<'a> {
-    n: u8,
-    running: ConsoleSet,
-    entries: &'a [u8],
-}
-
-impl Test for BadEntry<'_> as BadEntryTest {
-    ghost passes = { λ s c. bad-entry (s .n) (s .running) (now (s .entries)) c };
-
-    fn test(&self, c: u8) -> bool {
-        let entry = item_or(self.entries, c, 0);
-        has(self.running, c) & ((entry == 0) | (self.n < entry))
-    }
-}
-
-// A console with a row that it cannot have.
-#[derive(Clone, Copy)]
-struct BadRow<'a> {
-    running: ConsoleSet,
-    falls: ConsoleSet,
-    rows: &'a [ConsoleSet],
-}
-
-impl Test for BadRow<'_> as BadRowTest {
-    ghost passes = { λ s c. bad-row (s .running) (s .falls) (now (s .rows)) c };
-
-    fn test(&self, c: u8) -> bool {
-        let row = item_or(self.rows, c, 0);
-        if has(difference(self.running, self.falls), c) {
-            !(has(row, c) & is_within(row, self.running))
-        } else {
-            row != 0
-        }
-    }
-}
-
-// A console that completes the round with a row that is no quorum.
-#[derive(Clone, Copy)]
-struct NoQuorum<'a> {
-    n: u8,
-    t: u8,
-    running: ConsoleSet,
-    falls: ConsoleSet,
-    rows: &'a [ConsoleSet],
-}
-
-impl Test for NoQuorum<'_> as NoQuorumTest {
-    ghost passes = { λ s c. short-row (s .n) (s .t) (s .running) (s .falls) (now (s .rows)) c };
-
-    fn test(&self, c: u8) -> bool {
-        has(difference(self.running, self.falls), c)
-            & !is_quorum(self.n, self.t, item_or(self.rows, c, 0))
-    }
-}
-
-// A console that runs and whose row is not the running set.
-#[derive(Clone, Copy)]
-struct Uneven<'a> {
-    running: ConsoleSet,
-    rows: &'a [ConsoleSet],
-}
-
-impl Test for Uneven<'_> as UnevenTest {
-    ghost passes = { λ s c. uneven-row (s .running) (now (s .rows)) c };
-
-    fn test(&self, c: u8) -> bool {
-        has(self.running, c) & (item_or(self.rows, c, 0) != self.running)
-    }
 }

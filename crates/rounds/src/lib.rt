@@ -1,6 +1,7 @@
 // What a rig and its back ends share: why a call is refused, what a round is, and the checks that calls meet.
 mod arrays;
 mod checks;
+mod faults;
 mod items;
 mod refusals;
 mod sets;

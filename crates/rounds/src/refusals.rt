@@ -16,7 +16,7 @@ pub enum Layer {
 // Why a call of a rig or of a back end is refused, in the order of the numbers.
 #[derive(Clone, Copy, PartialEq, Eq, Debug)]
 pub enum Refusal {
-    // n is not 3 to MAX_CONSOLES.
+    // n is not MIN_CONSOLES to MAX_CONSOLES.
     Consoles,
     // t is 0, or 2t is at least n.
     Tolerance,

@@ -1,3 +1,5 @@
+use crate::MAX_ROUNDS;
+use crate::MIN_CONSOLES;
 use crate::checks::*;
 use crate::refusals::Layer;
 use crate::refusals::LayerDebug;
@@ -6,17 +8,20 @@ use crate::refusals::Refusal;
 use crate::refusals::RefusalDebug;
 use crate::refusals::RefusalPartialEq;
 use console_sets::ConsoleSet;
+use console_sets::MAX_CONSOLES;
 use std::test::*;
+
+const MOST: u8 = MAX_CONSOLES as u8;
 
 #[test]
 fn sizes() -> Result<(), Fail> {
-    check_eq(check_size(2, 1), Err(Refusal::Consoles))?;
-    check_eq(check_size(3, 1), Ok(()))?;
-    check_eq(check_size(16, 7), Ok(()))?;
-    check_eq(check_size(17, 1), Err(Refusal::Consoles))?;
+    check_eq(check_size(MIN_CONSOLES - 1, 1), Err(Refusal::Consoles))?;
+    check_eq(check_size(MIN_CONSOLES, 1), Ok(()))?;
+    check_eq(check_size(MOST, 7), Ok(()))?;
+    check_eq(check_size(MOST + 1, 1), Err(Refusal::Consoles))?;
     check_eq(check_size(3, 0), Err(Refusal::Tolerance))?;
     check_eq(check_size(4, 2), Err(Refusal::Tolerance))?;
-    check_eq(check_size(16, 128), Err(Refusal::Tolerance))?;
+    check_eq(check_size(MOST, 128), Err(Refusal::Tolerance))?;
     check_eq(check_make(4, 1, false), Err(Refusal::NotServed))
 }
 
@@ -46,9 +51,9 @@ fn checked(rounds: u32, falls: ConsoleSet, rows: &[ConsoleSet]) -> Result<(), Re
 
 #[test]
 fn rounds() -> Result<(), Fail> {
-    check_eq(checked(999, 8, &[7, 7, 15, 0, 0]), Ok(()))?;
+    check_eq(checked(MAX_ROUNDS - 1, 8, &[7, 7, 15, 0, 0]), Ok(()))?;
     check_eq(
-        checked(1000, 8, &[7, 7, 15, 0, 0]),
+        checked(MAX_ROUNDS, 8, &[7, 7, 15, 0, 0]),
         Err(Refusal::RoundLimit),
     )?;
     check_eq(checked(0, 8, &[7, 7, 15, 0]), Err(Refusal::ItemCount))?;

@@ -1,5 +1,5 @@
-use Rattle.rounds.proofs.Accepted.{start-ok, round-ok}
+use Rattle.rounds.proofs.Accepted.{size-ok, make-ok, start-ok, round-ok}
 use Rattle.rounds.proofs.theorems.laws_of_checks.Needs as need
 
 pub returns : need.returns
-returns c = record { start-ok = start-ok; round-ok = round-ok }
+returns c = record { size-ok = size-ok; make-ok = make-ok; start-ok = start-ok; round-ok = round-ok }

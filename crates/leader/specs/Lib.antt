@@ -1,0 +1,4 @@
+pub mod Rule
+pub mod Shown
+pub mod State
+pub mod Means

@@ -1,0 +1,11 @@
+pub mod LaterRounds
+pub mod Good
+pub mod Lawful
+pub mod Led
+pub mod Willing
+pub mod Answering
+pub mod Handing
+pub mod Turning
+pub mod Stepping
+pub mod Lift
+pub mod Strings

@@ -1,0 +1,4 @@
+pub mod Choice
+pub mod Keeps
+pub mod Round
+pub mod Advance
