@@ -28,25 +28,13 @@ fn verdicts(b: &Leader) -> Result<[u8; 3], Refusal> {
     Ok([b.verdict(1)?, b.verdict(2)?, b.verdict(3)?])
 }
 
-// A round, and the verdicts after it.
+// The fall set and the rows of a round, and the verdicts after it.
 #[derive(Clone, Copy)]
-struct Line {
-    falls: ConsoleSet,
-    rows: [ConsoleSet; 3],
-    verdicts: [u8; 3],
-}
-
-fn line(falls: ConsoleSet, rows: [ConsoleSet; 3], verdicts: [u8; 3]) -> Line {
-    Line {
-        falls,
-        rows,
-        verdicts,
-    }
-}
+struct Line(ConsoleSet, [ConsoleSet; 3], [u8; 3]);
 
 fn play(b: &mut Leader, line: Line) -> Result<(), Fail> {
-    round(b, line.falls, &line.rows)?;
-    check_eq(verdicts(b)?, line.verdicts)
+    round(b, line.0, &line.1)?;
+    check_eq(verdicts(b)?, line.2)
 }
 
 fn play_all(b: &mut Leader, lines: &[Line]) -> Result<(), Fail> {
@@ -59,7 +47,7 @@ fn play_all(b: &mut Leader, lines: &[Line]) -> Result<(), Fail> {
 #[test]
 fn calm() -> Result<(), Fail> {
     let mut b = started(&[2, 2, 2])?;
-    let lines = [line(0, [7, 7, 7], [0, 0, 0]), line(0, [7, 7, 7], [2, 2, 2])];
+    let lines = [Line(0, [7, 7, 7], [0, 0, 0]), Line(0, [7, 7, 7], [2, 2, 2])];
     play_all(&mut b, &lines)?;
     check_eq(b.steady(), 2)
 }
@@ -67,7 +55,7 @@ fn calm() -> Result<(), Fail> {
 #[test]
 fn differing_entries() -> Result<(), Fail> {
     let mut b = started(&[3, 2, 1])?;
-    let lines = [line(0, [7, 7, 7], [0, 0, 0]), line(0, [7, 7, 7], [3, 3, 3])];
+    let lines = [Line(0, [7, 7, 7], [0, 0, 0]), Line(0, [7, 7, 7], [3, 3, 3])];
     play_all(&mut b, &lines)
 }
 
@@ -75,10 +63,10 @@ fn differing_entries() -> Result<(), Fail> {
 fn losses() -> Result<(), Fail> {
     let mut b = started(&[1, 2, 3])?;
     let lines = [
-        line(0, [3, 6, 5], [0, 0, 0]),
-        line(0, [3, 6, 5], [0, 0, 1]),
-        line(0, [3, 6, 5], [0, 1, 1]),
-        line(0, [3, 6, 5], [1, 1, 1]),
+        Line(0, [3, 6, 5], [0, 0, 0]),
+        Line(0, [3, 6, 5], [0, 0, 1]),
+        Line(0, [3, 6, 5], [0, 1, 1]),
+        Line(0, [3, 6, 5], [1, 1, 1]),
     ];
     play_all(&mut b, &lines)?;
     check_eq(b.steady(), 0)
@@ -88,10 +76,10 @@ fn losses() -> Result<(), Fail> {
 fn falls_and_restart() -> Result<(), Fail> {
     let mut b = started(&[1, 2, 3])?;
     let lines = [
-        line(1, [0, 6, 7], [0, 0, 0]),
-        line(0, [0, 6, 6], [0, 0, 0]),
-        line(0, [0, 6, 6], [0, 0, 0]),
-        line(0, [0, 6, 6], [0, 1, 1]),
+        Line(1, [0, 6, 7], [0, 0, 0]),
+        Line(0, [0, 6, 6], [0, 0, 0]),
+        Line(0, [0, 6, 6], [0, 0, 0]),
+        Line(0, [0, 6, 6], [0, 1, 1]),
     ];
     play_all(&mut b, &lines)?;
     start(&mut b, 6, &[0, 3, 2])?;
@@ -134,7 +122,7 @@ fn no_such_console() -> Result<(), Fail> {
 #[test]
 fn refused_rounds() -> Result<(), Fail> {
     let mut b = started(&[1, 2, 3])?;
-    play(&mut b, line(0, [7, 7, 7], [0, 0, 0]))?;
+    play(&mut b, Line(0, [7, 7, 7], [0, 0, 0]))?;
     check_eq(round(&mut b, 0, &[7, 7]), Err(Refusal::ItemCount))?;
     check_eq(round(&mut b, 8, &[7, 7, 7]), Err(Refusal::OutsideMember))?;
     check_eq(round(&mut b, 3, &[0, 0, 7]), Err(Refusal::TooFewRunning))?;
@@ -142,7 +130,7 @@ fn refused_rounds() -> Result<(), Fail> {
     check_eq(round(&mut b, 0, &[7, 5, 7]), Err(bad))?;
     let short = Refusal::ShortRow { console: 3 };
     check_eq(round(&mut b, 0, &[7, 7, 4]), Err(short))?;
-    play(&mut b, line(0, [7, 7, 7], [1, 1, 1]))
+    play(&mut b, Line(0, [7, 7, 7], [1, 1, 1]))
 }
 
 #[test]

@@ -8,7 +8,7 @@ pub struct Ticket {
 }
 
 // What is asked of a rig, with the numbers of the ticket that is shown.
-#[derive(Clone, Copy)]
+#[derive(Drop)]
 pub enum Call<'a, P> {
     Press(&'a [P]),
     Round {

@@ -14,6 +14,8 @@ mod rig;
 pub use calls::Call;
 pub use calls::Ticket;
 pub use page::End;
+pub use page::EndDebug;
+pub use page::EndPartialEq;
 pub use page::Page;
 pub use performing::whole_show;
 pub use rig::Rig;

@@ -13,7 +13,6 @@ use crate::later::all_decided;
 use crate::page::Page;
 use crate::rig::Rig;
 use back_end::BackEnd;
-use console_sets::ConsoleSet;
 use front::Console;
 use rounds::Refusal;
 use rounds::check_console;
@@ -54,26 +53,5 @@ impl<B: BackEnd> Rig<B> {
         let page = self.page(page)?;
         check_console(self.panel.n, number)?;
         Ok(page.consoles[number as usize - 1])
-    }
-
-    // The number of consoles.
-    pub fn n(&self) -> u8
-        ensures { λ r. ⌜ r ≡ now (self .entry) .panel .n ⌝ }
-    {
-        self.panel.n
-    }
-
-    // The consoles that run.
-    pub fn running(&self) -> ConsoleSet
-        ensures { λ r. ⌜ r ≡ now (self .entry) .panel .running ⌝ }
-    {
-        self.panel.running
-    }
-
-    // Whether a press is open.
-    pub fn is_open(&self) -> bool
-        ensures { λ r. ⌜ r ≡ now (self .entry) .panel .open ⌝ }
-    {
-        self.panel.open
     }
 }
