@@ -1,6 +1,5 @@
 // A schedule read through to its end.
 ghost use mathlib.Core.Path.{_≡_};
-ghost use mathlib.Core.List.{_++_};
 ghost use Rattle.std.specs.Of.String.{string-bytes};
 ghost use Rattle.std.specs.Vec.{made};
 ghost use Rattle.holpsket.specs.Stops.{last-line};

@@ -1,21 +1,18 @@
 -- What a round asks of the back end, by whether round t + 2 is to come, is there or is past.
 use Prim.Native.Nat.{ℕ, _+_, _-_, _≤_, _<_}
-use mathlib.Core.Path.{_≡_, refl, sym, ap, subst, _∙_}
-use mathlib.Core.Bool.{cond}
+use mathlib.Core.Path.{_≡_, _∙_}
 use mathlib.Core.List.{List, map}
 use native.Mathlib.Omega.{arith}
-use lib.Dec.{ltb}
 use lib.ListN.{length, take}
 use Rattle.std.specs.Iters.{counting}
-use Rattle.std.specs.declared.option.Option.the-variants.{None}
 use Rattle.std.proofs.shelf.Counted.{fill-by-all}
 use Rattle.std.proofs.shelf.Lists.{getD-take, length-take-le}
-use Rattle.std.proofs.shelf.Tests.{cond-true, cond-false, lt-ltb, le-ltb, eq-eqb, ne-eqb}
+use Rattle.std.proofs.shelf.Tests.{cond-true, cond-false, le-ltb, eq-eqb, ne-eqb}
 use Rattle.rounds.specs.Items.{at}
 use Rattle.rounds.specs.Rounds.{completing}
 use Rattle.rounds.specs.Checks.{start-refusal, round-refusal}
 use Rattle.back_end.specs.Meaning.{Meaning}
-use Rattle.back_end.specs.Calls.{Started, Rounded}
+use Rattle.back_end.specs.Calls.{Started}
 use Rattle.rig.specs.declared.panel.Panel.{Panel}
 use Rattle.rig.specs.Steps.{entry-list, back-refusal, told, Handed}
 

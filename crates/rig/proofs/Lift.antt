@@ -1,9 +1,9 @@
 -- What the calls answer and leave, lifted to the history: where a string of calls led to a rig, the answer is the refusal that the history gives, and an
 -- accepted call leads to the longer history, whose rig is the one that the call leaves.
-use Prim.Native.Nat.{ℕ, zero, suc, _+_, _≤_, _<_}
+use Prim.Native.Nat.{ℕ, suc, _+_, _≤_, _<_}
 use mathlib.Core.Path.{_≡_, refl, sym, ap, subst, fun-ext, _∙_}
 use mathlib.Core.Bool.{Bool, true, false, not, cond, _&&_}
-use mathlib.Core.Logic.{_⊎_, inl, inr, _≢_}
+use mathlib.Core.Logic.{_≢_}
 use mathlib.Core.List.{List, [], _∷_}
 use native.Mathlib.Omega.{arith}
 use native.Mathlib.Numerals.{add-one}
@@ -12,7 +12,7 @@ use lib.ListN.{length, getD, set}
 use Rattle.std.specs.declared.option.Option.{Option}
 use Rattle.std.specs.declared.option.Option.the-variants.{Some, None}
 use Rattle.std.proofs.shelf.Lists.{getD-set-same, getD-set-other}
-use Rattle.std.proofs.shelf.Tests.{cases-bool, both-ways, and-parts, cond-true, cond-false, leb-false}
+use Rattle.std.proofs.shelf.Tests.{both-ways, and-parts}
 use Rattle.orders.specs.declared.Place.{Place}
 use Rattle.orders.specs.Places.{Lawful as Ordered}
 use Rattle.orders.specs.Ranks.{rank}
@@ -25,19 +25,19 @@ use Rattle.rounds.specs.declared.Refusal.the-variants.{PressOpen, BookFull, Pro
 use Rattle.back_end.specs.Meaning.{Meaning}
 use Rattle.back_end.specs.Calls.{Made}
 use Rattle.back_end.specs.Laws.{Agrees, Settles}
-use Rattle.front.specs.Consoles.{State, state-of, opened}
+use Rattle.front.specs.Consoles.{state-of, opened}
 use Rattle.front.specs.Halting.{after-halting}
 use Rattle.front.specs.Deciding.{after-deciding}
-use Rattle.front.specs.Runs.{Opening, Round, running}
+use Rattle.front.specs.Runs.{running}
 use Rattle.front.specs.Runs as front
 use Rattle.rig.specs.declared.page.Page.{Page}
 use Rattle.rig.specs.declared.panel.Panel.{Panel}
 use Rattle.rig.specs.declared.panel.Book.{Book}
 use Rattle.rig.specs.Bound.{max-pages}
 use Rattle.rig.specs.Later.{after-later, all-decided}
-use Rattle.rig.specs.Presses.{Played, Press, opening, rounds-of, opened-with, state, consoles, running-after}
-use Rattle.rig.specs.Steps.{Set-up, press-refusal, Pressed, fits, opening-of, after-round, back-refusal, turn-refusal, told, Advanced, Handed, close-refusal, end-of, page-now, Closed}
-use Rattle.rig.specs.Shows.{Setting, Show, Asked, press, round, close, Answered, first-day, running-now, played-now, consoles-now, ranks-now, closed-of, closed-presses, Paged, blank-page, Pages, Stands, shows, refusal, pressed, with-round, closed-now, Goes, Led, set-up, not-done, press-done, round-done, close-done}
+use Rattle.rig.specs.Presses.{Played, Press, consoles, running-after}
+use Rattle.rig.specs.Steps.{Set-up, press-refusal, Pressed, fits, back-refusal, turn-refusal, told, Advanced, Handed, close-refusal, end-of, page-now, Closed}
+use Rattle.rig.specs.Shows.{Setting, Show, press, round, close, Answered, first-day, Paged, blank-page, Pages, Stands, shows, refusal, pressed, with-round, closed-now, Led, set-up, press-done, round-done, close-done}
 use Rattle.rig.proofs.Led.{sound, past, all-closed}
 use Rattle.rig.proofs.Willing.{willing, goes}
 

@@ -1,5 +1,5 @@
 -- Strings of calls: a rig that some calls led to, one call more, and all of them.
-use Prim.Native.Nat.{ℕ, zero, suc, _+_, _≤_, _<_}
+use Prim.Native.Nat.{ℕ, _+_, _≤_, _<_}
 use mathlib.Core.Path.{_≡_, refl, sym, ap, subst, _∙_}
 use mathlib.Core.Bool.{Bool, true, false, not, _&&_}
 use mathlib.Core.Logic.{_⊎_, inl, inr}
@@ -10,7 +10,7 @@ use lib.ListN.{length, getD, set}
 use Rattle.std.specs.declared.option.Option.{Option}
 use Rattle.std.specs.declared.option.Option.the-variants.{Some, None}
 use Rattle.std.proofs.shelf.Lists.{reverse-append, length-append, getD-set-same, getD-set-other, getD-push, getD-append-left}
-use Rattle.std.proofs.shelf.Tests.{cases-eq, cases-lt, cases-bool, both-ways}
+use Rattle.std.proofs.shelf.Tests.{cases-eq, cases-lt, cases-bool}
 use Rattle.orders.specs.declared.Place.{Place}
 use Rattle.orders.specs.Places.{Lawful as Ordered}
 use Rattle.rounds.specs.Refusals.{refused}
@@ -21,9 +21,9 @@ use Rattle.back_end.specs.Laws.{Agrees, Settles}
 use Rattle.front.specs.Runs.{Round}
 use Rattle.rig.specs.declared.panel.Panel.{Panel}
 use Rattle.rig.specs.declared.panel.Book.{Book}
-use Rattle.rig.specs.Presses.{Press, Played}
-use Rattle.rig.specs.Steps.{fits, turn-refusal, close-refusal, told}
-use Rattle.rig.specs.Shows.{Setting, Show, Asked, press, round, close, Answered, closed-of, closed-presses, shows, refusal, Stands, Led, not-done, Ends, same, more, with-answers, Performed}
+use Rattle.rig.specs.Presses.{Press}
+use Rattle.rig.specs.Steps.{fits, turn-refusal}
+use Rattle.rig.specs.Shows.{Setting, Show, Asked, press, round, close, Answered, closed-presses, shows, refusal, Stands, Led, not-done, Ends, same, more, with-answers, Performed}
 use denote.Ref.{now}
 use Rattle.orders.proofs.Lawful.{lawful-between}
 use Rattle.rig.specs.declared.calls.Call.{Call}

@@ -1,5 +1,5 @@
 -- A whole show: the strings of calls that lead from a rig that was just set up to a history, and what a rig is by its history.
-use Prim.Native.Nat.{ℕ, suc, _+_, _*_, _≤_, _<_}
+use Prim.Native.Nat.{ℕ, suc, _+_, _≤_, _<_}
 use mathlib.Core.Path.{_≡_}
 use mathlib.Core.Bool.{Bool, true, false, not, _&&_}
 use mathlib.Core.List.{List, [], _∷_, _++_, reverse}
@@ -7,12 +7,11 @@ use lib.Dec.{eqb, leb}
 use lib.ListN.{length, getD}
 use Rattle.std.specs.declared.option.Option.{Option}
 use Rattle.std.specs.declared.option.Option.the-variants.{Some, None}
-use Rattle.console_sets.specs.Bound.{max-consoles}
 use Rattle.console_sets.specs.Sets.{all}
 use Rattle.orders.specs.declared.Place.{Place}
 use Rattle.orders.specs.Places.{Lawful as Ordered}
 use Rattle.rounds.specs.Items.{at}
-use Rattle.rounds.specs.Refusals.{refused, either}
+use Rattle.rounds.specs.Refusals.{refused}
 use Rattle.rounds.specs.Checks.{size-refusal, round-refusal}
 use Rattle.rounds.specs.declared.Refusal.{Refusal}
 use Rattle.rounds.specs.declared.Refusal.the-variants.{PressOpen, BookFull, ProposalCount, WrongTicket}
@@ -23,7 +22,7 @@ use Rattle.front.specs.Consoles.{State, state-of, opened}
 use Rattle.front.specs.Runs.{Round, entries}
 use Rattle.rig.specs.declared.page.Page.{Page}
 use Rattle.rig.specs.declared.page.End.{End}
-use Rattle.rig.specs.declared.page.End.the-variants.{Settled, Dropped}
+use Rattle.rig.specs.declared.page.End.the-variants.{Settled}
 use Rattle.rig.specs.declared.panel.Panel.{Panel}
 use Rattle.rig.specs.declared.panel.Book.{Book}
 use Rattle.rig.specs.Bound.{max-pages}

@@ -1,18 +1,17 @@
 -- Digits by place: the steps of reading them from the left, and how large a number they write.
-use Prim.Native.Nat.{ℕ, zero, suc, _+_, _-_, _*_, _^_, _≤_, _<_}
+use Prim.Native.Nat.{ℕ, suc, _+_, _-_, _*_, _^_, _≤_, _<_}
 use mathlib.Core.Path.{_≡_, refl, sym, ap, _∙_}
 use mathlib.Core.Bool.{Bool, true, false, cond, _&&_}
 use mathlib.Core.Logic.{_⊎_, inl, inr}
-use mathlib.Core.List.{List, [], _∷_, map}
+use mathlib.Core.List.{List, [], _∷_}
 use native.Mathlib.Omega.{arith}
-use native.Mathlib.Nat.{add-assoc, add-mul, mul-assoc, mul-comm, pow-succ', mul-le-mul-right, one-mul, zero-mul, one-le-pow, pow-zero, mul-one, mul-le-mul-left}
+use native.Mathlib.Nat.{add-mul, mul-assoc, pow-succ', mul-le-mul-right, one-mul, zero-mul, one-le-pow, pow-zero, mul-one, mul-le-mul-left}
 use lib.Dec.{ltb}
 use lib.ListN.{length, getD, drop}
-use lib.Pow.{pow-pos}
 use Rattle.std.proofs.shelf.Lists.{drop-more, drop-all, length-map}
 use Rattle.std.proofs.shelf.Tests.{and-parts, and-left, and-right, and-from, ltb-true, ltb-false, le-ltb, lt-ltb, cases-bool, cond-true}
 use Rattle.std.specs.declared.option.Option.the-variants.{Some, None}
-use Rattle.schedule.specs.Numbers.{placed, each, digit, is-digit, value}
+use Rattle.schedule.specs.Numbers.{each, digit, is-digit, value}
 
 pub value-cons : (base b : ℕ) (bs : List ℕ) → value base (b ∷ bs) ≡ digit b * base ^ length bs + value base bs
 value-cons base b bs = ap (λ (k : ℕ). digit b * base ^ k + value base bs) (length-map bs digit)

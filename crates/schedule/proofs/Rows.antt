@@ -2,27 +2,25 @@
 use Prim.Native.Nat.{ℕ, zero, suc, _+_, _<_}
 use mathlib.Core.Path.{_≡_, refl, sym, ap, _∙_}
 use mathlib.Core.Bool.{Bool, true, false, cond}
-use mathlib.Core.Logic.{_⊎_, inl, inr}
 use mathlib.Core.List.{List, []}
 use native.Mathlib.Omega.{arith}
-use native.Mathlib.Nat.{add-comm}
-use native.Mathlib.Numerals.{one-add, add-one}
+use native.Mathlib.Numerals.{one-add}
 use lib.Dec.{eqb}
-use lib.ListN.{length, getD, drop}
+use lib.ListN.{length, drop}
 use Rattle.std.specs.declared.option.Option.{Option}
 use Rattle.std.specs.declared.option.Option.the-variants.{Some, None}
 use Rattle.std.specs.declared.result.Result.{Result}
 use Rattle.std.specs.declared.result.Result.the-variants.{Ok, Err}
 use Rattle.std.proofs.shelf.Lists.{getD-drop}
-use Rattle.std.proofs.shelf.Tests.{cases-bool, cond-true, cond-false, eq-eqb, ne-eqb}
+use Rattle.std.proofs.shelf.Tests.{cond-true, cond-false, eq-eqb, ne-eqb}
 use Rattle.console_sets.specs.Sets.{lowest}
-use Rattle.console_sets.proofs.Lowest.{lowest-zero, lowest-is, zero-lowest, is-lowest, lowest-same}
+use Rattle.console_sets.proofs.Lowest.{lowest-zero, lowest-is, zero-lowest, is-lowest}
 use Rattle.schedule.specs.declared.refusal.FileRefusal.{FileRefusal}
-use Rattle.schedule.specs.declared.refusal.FileRefusal.the-variants.{BadField, FieldCount}
+use Rattle.schedule.specs.declared.refusal.FileRefusal.the-variants.{BadField}
 use Rattle.schedule.specs.declared.said.RoundLine.{RoundLine}
 use Rattle.schedule.specs.Numbers.{set-said}
 use Rattle.schedule.specs.Values.{missing, or-else}
-use Rattle.schedule.specs.Said.{checked, field, each-console, round-said}
+use Rattle.schedule.specs.Said.{field, each-console, round-said}
 
 -- the lowest of one more, from those behind the first
 lowest-first : (p : ℕ → Bool) (n : ℕ) → p 0 ≡ true → lowest p (suc n) ≡ 1

@@ -1,9 +1,9 @@
 -- Each field has one text for each value.
 use Prim.Native.Nat.{ℕ, zero, suc, _+_, _-_, _*_, _/_, _%_, _^_, _≤_, _<_}
 use mathlib.Core.Path.{_≡_, refl, sym, ap, subst, _∙_}
-use mathlib.Core.Bool.{Bool, true, false, not, cond, _&&_, _||_}
+use mathlib.Core.Bool.{true, false, not, cond, _&&_}
 use mathlib.Core.Logic.{_⊎_, inl, inr}
-use mathlib.Core.List.{List, [], _∷_, _++_, map}
+use mathlib.Core.List.{List, [], _∷_, _++_}
 use native.Mathlib.Omega.{arith}
 use native.Mathlib.Nat.{pow-succ', pow-zero, one-le-pow, div-add-mod', mod-lt, div-lt-iff-lt-mul, mul-add-div-right, mul-add-mod-self-right, div-eq-of-lt, mod-eq-of-lt}
 use lib.Dec.{eqb, leb, ltb}
@@ -15,8 +15,7 @@ use Rattle.std.specs.declared.option.Option.{Option}
 use Rattle.std.specs.declared.option.Option.the-variants.{Some, None}
 use Rattle.std.proofs.shelf.Numerals.{Numerals, TellsDigits, Weighs, numerals-by-weight}
 use Rattle.std.proofs.shelf.Decimals.{digits-decimal, value-decimal, decimal-value, decimal-digit, decimal-some, first-decimal}
-use Rattle.std.proofs.shelf.Lists.{length-map}
-use Rattle.std.proofs.shelf.Tests.{cases-bool, cases-eq, cond-true, cond-false, and-parts, and-from, leb-true, leb-false, le-leb, lt-leb, ltb-true, lt-ltb, le-ltb, eqb-true, eqb-false, eq-eqb, ne-eqb, not-true, not-from-false, false≢true}
+use Rattle.std.proofs.shelf.Tests.{cases-bool, cases-eq, cond-true, cond-false, and-parts, and-from, leb-true, le-leb, eqb-true, eqb-false, eq-eqb, ne-eqb, not-true, not-from-false, false≢true}
 use Rattle.std.proofs.shelf.Ways.{tells}
 use Rattle.orders.specs.declared.Cue.{Cue}
 use Rattle.orders.specs.declared.FirstPress.{FirstPress}
@@ -25,7 +24,7 @@ use Rattle.schedule.specs.declared.said.ProposalKind.the-variants.{Cue as OfCu
 use Rattle.schedule.specs.declared.said.BackEndKind.{BackEndKind}
 use Rattle.schedule.specs.declared.said.BackEndKind.the-variants.{Leader, Third}
 use Rattle.schedule.specs.Parts.{before, onward}
-use Rattle.schedule.specs.Numbers.{placed, each, digit, is-digit, value, is-decimal, number-said, digits-said, set-said}
+use Rattle.schedule.specs.Numbers.{each, digit, is-digit, value, is-decimal, number-said, digits-said}
 use Rattle.schedule.specs.Values.{same, mapped, word-said, cue-said, behind-colon, pressed, first-said}
 use Rattle.schedule.specs.Texts.{digit-byte, hexadecimal, cue-text, first-press-text, kind-text, back-end-text, OneText, FieldTexts}
 use Rattle.schedule.proofs.Parted.{before-onward, cut-at}

@@ -1,18 +1,18 @@
 -- A line taken apart by its first word, and what the definition of its kind says of it.
 use Prim.Native.Nat.{ℕ}
 use mathlib.Core.Path.{_≡_, refl, sym, ap, _∙_}
-use mathlib.Core.Bool.{Bool, true, false, cond}
+use mathlib.Core.Bool.{true, false}
 use mathlib.Core.Logic.{_⊎_, inl, inr}
-use mathlib.Core.List.{List, [], _∷_, _++_}
+use mathlib.Core.List.{List, _++_}
 use lib.Chars.{codes}
 use lib.ListN.{drop}
 use Rattle.std.specs.declared.option.Option.{Option}
-use Rattle.std.specs.declared.option.Option.the-variants.{Some, None}
+use Rattle.std.specs.declared.option.Option.the-variants.{None}
 use Rattle.std.proofs.shelf.Tests.{cases-bool}
-use Rattle.schedule.specs.Parts.{before, onward, later, starts}
+use Rattle.schedule.specs.Parts.{before, onward, later}
 use Rattle.schedule.specs.Values.{same}
 use Rattle.schedule.specs.Kinds.{Begins, Unknown}
-use Rattle.schedule.specs.Reading.{Kind, kind-of}
+use Rattle.schedule.specs.Reading.{kind-of}
 use Rattle.schedule.proofs.Parted.{before-onward, starts-onward, parted-cut, cut-at}
 use Rattle.schedule.proofs.Same.{same-true}
 

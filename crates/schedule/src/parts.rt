@@ -1,7 +1,7 @@
 // Bytes cut at a separator.
 ghost use mathlib.Core.Path.{_≡_};
 ghost use lib.ListN.{length};
-ghost use Rattle.schedule.specs.Parts.{before, onward, later, starts};
+ghost use Rattle.schedule.specs.Parts.{before, onward, later};
 
 // How many bytes stand before the first `stop`, all where there is none.
 fn reach(bytes: &[u8], stop: u8) -> usize

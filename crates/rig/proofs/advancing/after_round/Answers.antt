@@ -10,7 +10,7 @@ use Rattle.front.specs.Halting.{after-halting}
 use Rattle.front.specs.Deciding.{after-deciding}
 use Rattle.front.specs.Runs as front
 use Rattle.rig.specs.declared.panel.Panel.{Panel}
-use Rattle.rig.specs.Steps.{opening-of, after-round}
+use Rattle.rig.specs.Steps.{after-round}
 use Rattle.rig.proofs.advancing.after_round.Needs as need
 
 module _ (panel : Panel) (k completing : ℕ) (rows : List ℕ) (verdicts : ℕ → ℕ) where

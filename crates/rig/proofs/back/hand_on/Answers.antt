@@ -1,4 +1,4 @@
-use mathlib.Core.Path.{_≡_, sym, _∙_}
+use mathlib.Core.Path.{sym, _∙_}
 use native.Mathlib.Omega.{arith}
 use Rattle.console_sets.specs.Bound.{max-consoles}
 use Rattle.rounds.proofs.Fill.{blank}

@@ -1,5 +1,4 @@
 use borrow.Author.Needs.{needs}
-use native.Mathlib.Omega.{arith}
 use Rattle.schedule.proofs.Same.{at-colon}
 use Rattle.schedule.proofs.field.behind_colon.Needs as need
 

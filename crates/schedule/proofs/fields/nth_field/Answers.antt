@@ -1,6 +1,6 @@
 use mathlib.Core.Path.{ap, _∙_}
 use native.Mathlib.Omega.{arith}
-use lib.ListN.{drop, getD}
+use lib.ListN.{drop}
 use Rattle.std.proofs.shelf.Lists.{drop-drop}
 use Rattle.schedule.specs.Parts.{later}
 use Rattle.schedule.proofs.Parted.{first-left}

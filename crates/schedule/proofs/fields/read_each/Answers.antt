@@ -1,8 +1,6 @@
-use borrow.Author.Needs.{needs}
 use native.Mathlib.Omega.{arith}
-use mathlib.Core.Path.{_≡_, sym, ap, _∙_}
+use mathlib.Core.Path.{sym, _∙_}
 use mathlib.Core.Logic.{inl, inr}
-use Rattle.std.specs.declared.option.Option.{Option}
 use Rattle.schedule.specs.Parts.{later}
 use Rattle.schedule.specs.Said.{proposal-at}
 use Rattle.schedule.proofs.Each.{next-is, sofar-more, answers-bad, answers-all}

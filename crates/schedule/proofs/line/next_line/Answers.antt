@@ -1,5 +1,4 @@
 use borrow.Author.Needs.{needs}
-use native.Mathlib.Omega.{arith}
 use mathlib.Core.Path.{sym}
 use Rattle.schedule.proofs.NextLine.{is-line, one-line}
 use Rattle.schedule.proofs.line.next_line.Needs as need

@@ -1,6 +1,5 @@
-use borrow.Author.Needs.{needs}
 use native.Mathlib.Omega.{arith}
-use mathlib.Core.Path.{sym, _∙_}
+use mathlib.Core.Path.{sym}
 use Rattle.std.proofs.shelf.Tests.{cond-false}
 use Rattle.schedule.proofs.Digits.{reads-none, reads-more, reads-no-more, reads-all}
 use Rattle.schedule.proofs.numbers.number_in.Needs as need

@@ -1,7 +1,7 @@
 use borrow.Author.Needs.{needs}
 use native.Mathlib.Omega.{arith}
-use mathlib.Core.Path.{sym, ap, _∙_}
-use lib.ListN.{take, drop}
+use mathlib.Core.Path.{ap, _∙_}
+use lib.ListN.{drop}
 use Rattle.std.proofs.shelf.Lists.{take-rest}
 use Rattle.schedule.proofs.Parted.{take-before, drop-before, length-before}
 use Rattle.schedule.proofs.parts.cut.Needs as need

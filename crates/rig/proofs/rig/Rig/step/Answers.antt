@@ -1,7 +1,6 @@
 use mathlib.Core.Path.{refl, ap}
 use lib.ListN.{length}
 use Rattle.orders.specs.Ranks.{between}
-use Rattle.rig.specs.Steps.{end-now}
 use Rattle.rig.specs.Calls.{asked}
 use Rattle.rig.proofs.Stepping.{moved, press-done, round-done, close-done}
 use Rattle.rig.proofs.rig.Rig.step.Needs as need
