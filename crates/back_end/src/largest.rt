@@ -12,7 +12,7 @@ pub trait Measure {
 
 // The largest of the numbers at the indices below n, or 0 for none.
 pub fn largest_of<M: Measure>(measure: &M, n: u8) -> u32
-    ensures { result ≡ largest (number measure.now) n }
+    ensures { result ≡ largest (M.number measure.now) n }
 {
     let mut top: u32 = 0;
     for c in 0..n {

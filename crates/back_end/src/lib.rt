@@ -1,4 +1,6 @@
 // Back ends: the interface that every one keeps, and what those that are built have in common.
+#![tactic(auto)]
+
 mod calls;
 mod interface;
 mod largest;

@@ -1,4 +1,6 @@
 // Sets of consoles, each as one unsigned number, and tests of consoles as types.
+#![tactic(auto)]
+
 mod members;
 mod searches;
 #[cfg(test)]

@@ -16,7 +16,7 @@ pub trait Test {
 
 // The number of the lowest console up to n that passes, or 0 if none does.
 pub fn lowest_of<T: Test>(t: &T, n: u8) -> u8
-    ensures { result ≡ lowest (passes t.now) n }
+    ensures { result ≡ lowest (T.passes t.now) n }
 {
     for c in 0..n {
         if t.test(c) {
@@ -28,7 +28,7 @@ pub fn lowest_of<T: Test>(t: &T, n: u8) -> u8
 
 // How many of the consoles up to n pass.
 pub fn count_of<T: Test>(t: &T, n: u8) -> u8
-    ensures { result ≡ count (passes t.now) n }
+    ensures { result ≡ count (T.passes t.now) n }
 {
     let mut number = 0;
     for c in 0..n {
@@ -41,7 +41,7 @@ pub fn count_of<T: Test>(t: &T, n: u8) -> u8
 
 // The set of exactly those consoles up to n that pass. Beyond MAX_CONSOLES there are none.
 pub fn set_of<T: Test>(t: &T, n: u8) -> ConsoleSet
-    ensures { result ≡ set_of (passes t.now) (min n max_consoles) }
+    ensures { result ≡ set_of (T.passes t.now) (min n max_consoles) }
 {
     let mut set = 0;
     for c in 0..n.min(MAX_CONSOLES as u8) {

@@ -1,4 +1,6 @@
 // The front of a press, rounds 1 to t + 2: what each console has after each of them, and what it hands to a back end.
+#![tactic(auto)]
+
 mod consoles;
 mod deciding;
 mod halting;

@@ -1,4 +1,6 @@
 // Reads a schedule on standard input to its end and prints what it found.
+#![tactic(auto)]
+
 mod stop;
 #[cfg(test)]
 mod tests;

@@ -1,4 +1,6 @@
 // The back end Leader: a verdict is an estimate that more than half of all consoles committed to in one round.
+#![tactic(auto)]
+
 mod calls;
 mod console;
 mod heard;

@@ -1,4 +1,6 @@
 // Orders of proposals, and the ranks of the consoles that make them.
+#![tactic(auto)]
+
 ghost use Rattle.std.specs.Prelude.{◌≡◌};
 ghost use Rattle.orders.specs.declared.Place.{Place};
 ghost use Rattle.orders.specs.declared.Place.TheVariants.{Before, Same};

@@ -17,7 +17,7 @@ fn takes_part<P>(proposals: &[P], running: ConsoleSet, c: u8) -> bool
 // Whether author a precedes author b: by their proposals, or by their numbers where those are the same.
 fn precedes<P: Order>(proposals: &[P], a: u8, b: u8) -> bool
     requires { (a < length proposals.now) × (b < length proposals.now) }
-    ensures { result ≡ precedes (between places proposals.now) a b }
+    ensures { result ≡ precedes (between P.places proposals.now) a b }
 {
     let place = proposals[a as usize].compare(&proposals[b as usize]);
     place.then(by_number(a as u32, b as u32)).is_before()
@@ -32,7 +32,7 @@ struct Ahead<'a, P> {
 }
 
 impl<P: Order> Test for Ahead<'_, P> {
-    ghost passes = { λ s c. takes_part (length s.proposals.now) s.running s.author && ahead_of (length s.proposals.now) s.running (between places s.proposals.now) s.author c };
+    ghost passes = { λ s c. takes_part (length s.proposals.now) s.running s.author && ahead_of (length s.proposals.now) s.running (between P.places s.proposals.now) s.author c };
 
     fn test(&self, c: u8) -> bool {
         takes_part(self.proposals, self.running, self.author)
@@ -43,7 +43,7 @@ impl<P: Order> Test for Ahead<'_, P> {
 
 // How many of those that take part precede the author, or 0 if the author does not.
 fn rank_of<P: Order>(proposals: &[P], running: ConsoleSet, author: u8) -> u8
-    ensures { result ≡ rank (length proposals.now) running (between places proposals.now) author }
+    ensures { result ≡ rank (length proposals.now) running (between P.places proposals.now) author }
 {
     let ahead = Ahead {
         proposals,
@@ -55,9 +55,9 @@ fn rank_of<P: Order>(proposals: &[P], running: ConsoleSet, author: u8) -> u8
 
 // The rank of each running console that has a proposal, by index: how many of them precede it. The others have 0.
 pub fn ranks<P: Order>(proposals: &[P], running: ConsoleSet) -> [u8; MAX_CONSOLES]
-    ensures each { (c : ℕ) → slice_index result c ≡ rank (length proposals.now) running (between places proposals.now) c }
-    ensures order { Ranking (length proposals.now) running (between places proposals.now) (λ c. slice_index result c) }
-    ensures unread { Unread places proposals.now running (λ c. slice_index result c) }
+    ensures each { (c : ℕ) → slice_index result c ≡ rank (length proposals.now) running (between P.places proposals.now) c }
+    ensures order { Ranking (length proposals.now) running (between P.places proposals.now) (λ c. slice_index result c) }
+    ensures unread { Unread P.places proposals.now running (λ c. slice_index result c) }
 {
     let mut ranks = [0; MAX_CONSOLES];
     for (c, rank) in ranks.iter_mut().enumerate() {

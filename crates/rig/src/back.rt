@@ -20,8 +20,8 @@ pub(crate) fn hand_on<B: BackEnd>(
     falls: ConsoleSet,
     rows: &[ConsoleSet],
 ) -> Result<[u8; MAX_CONSOLES], Refusal>
-    ensures answers { Answers result (back_refusal panel.now falls rows.now (meaning back.old)) (λ verdicts. (c : ℕ) → c < max_consoles → at verdicts c ≡ told panel.now (meaning back.new) c) }
-    ensures leaves { MatchResult result (λ _. Handed panel.now falls rows.now (meaning back.old) (meaning back.new)) (λ _. back.new ≡ back.old) }
+    ensures answers { Answers result (back_refusal panel.now falls rows.now (B.meaning back.old)) (λ verdicts. (c : ℕ) → c < max_consoles → at verdicts c ≡ told panel.now (B.meaning back.new) c) }
+    ensures leaves { MatchResult result (λ _. Handed panel.now falls rows.now (B.meaning back.old) (B.meaning back.new)) (λ _. back.new ≡ back.old) }
 {
     let last = panel.t as u32 + 1;
     if panel.rounds < last {
@@ -42,8 +42,8 @@ fn start<B: BackEnd>(
     falls: ConsoleSet,
     rows: &[ConsoleSet],
 ) -> Result<(), Refusal>
-    ensures answers { result ≡ start_answer (meaning back.old) (completing panel.now.running falls) (entry_list panel.now falls rows.now) }
-    ensures leaves { MatchResult result (λ _. Started (completing panel.now.running falls) (entry_list panel.now falls rows.now) (meaning back.old) (meaning back.new)) (λ _. back.new ≡ back.old) }
+    ensures answers { result ≡ start_answer (B.meaning back.old) (completing panel.now.running falls) (entry_list panel.now falls rows.now) }
+    ensures leaves { MatchResult result (λ _. Started (completing panel.now.running falls) (entry_list panel.now falls rows.now) (B.meaning back.old) (B.meaning back.new)) (λ _. back.new ≡ back.old) }
 {
     let running = difference(panel.running, falls);
     let all = entries(panel.n, panel.t, running, rows, &panel.consoles);
@@ -52,7 +52,7 @@ fn start<B: BackEnd>(
 
 // The verdict of each console that the back end knows, and 0 for the others.
 fn all_verdicts<B: BackEnd>(back: &B) -> [u8; MAX_CONSOLES]
-    ensures { (c : ℕ) → c < max_consoles → at result c ≡ (if nat_lt c (meaning back.now).n then at (meaning back.now).verdicts c else 0) }
+    ensures { (c : ℕ) → c < max_consoles → at result c ≡ (if nat_lt c (B.meaning back.now).n then at (B.meaning back.now).verdicts c else 0) }
 {
     array_of(&Verdicts { back }, 0)
 }
@@ -64,7 +64,7 @@ struct Verdicts<'a, B> {
 }
 
 impl<B: BackEnd> Source<u8> for Verdicts<'_, B> {
-    ghost item = { λ s c. (if nat_lt c max_consoles then (if nat_lt c (meaning s.back.now).n then at (meaning s.back.now).verdicts c else 0) else 0) };
+    ghost item = { λ s c. (if nat_lt c max_consoles then (if nat_lt c (B.meaning s.back.now).n then at (B.meaning s.back.now).verdicts c else 0) else 0) };
 
     fn item(&self, c: u8) -> u8 {
         if (c as usize) < MAX_CONSOLES {
@@ -78,7 +78,7 @@ impl<B: BackEnd> Source<u8> for Verdicts<'_, B> {
 // The verdict of the console of index c, 0 if the back end knows no such console.
 fn verdict_at<B: BackEnd>(back: &B, c: u8) -> u8
     requires { c < max_consoles }
-    ensures { result ≡ (if nat_lt c (meaning back.now).n then at (meaning back.now).verdicts c else 0) }
+    ensures { result ≡ (if nat_lt c (B.meaning back.now).n then at (B.meaning back.now).verdicts c else 0) }
 {
     match back.verdict(c + 1) {
         Ok(verdict) => verdict,

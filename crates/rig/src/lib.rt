@@ -1,4 +1,6 @@
 // One rig: set up, press, round, close, pages and tickets.
+#![tactic(auto)]
+
 mod advancing;
 mod back;
 mod calls;

@@ -49,7 +49,7 @@ pub(crate) fn empty_book() -> Book
 // The panel after a press with n proposals.
 pub(crate) fn pressed<P: Order>(panel: &Panel, book: &Book, proposals: &[P]) -> Panel
     requires { length proposals.now ≡ panel.now.n }
-    ensures { Pressed panel.now book.now (between places proposals.now) result }
+    ensures { Pressed panel.now book.now (between P.places proposals.now) result }
 {
     Panel {
         number: panel.number,

@@ -17,8 +17,8 @@ impl<B: BackEnd> Rig<B> {
     // string leads to a history, the rig is that of the history, and every press of it is lawful.
     pub fn perform<P: Order>(&mut self, calls: &[Call<'_, P>], answers: &mut [Option<Refusal>])
         ensures { (s : Setting) (cs : List Answered) (show : Show)
-            → Led limit s cs show (meaning self.old.back) → Stands s show self.old.panel self.old.book
-            → Performed limit s cs show (map (asked places) calls.now) self.new.panel self.new.book (meaning self.new.back) answers.old answers.new }
+            → Led B.limit s cs show (B.meaning self.old.back) → Stands s show self.old.panel self.old.book
+            → Performed B.limit s cs show (map (asked P.places) calls.now) self.new.panel self.new.book (B.meaning self.new.back) answers.old answers.new }
     {
         for (i, call) in calls.iter().enumerate() {
             let answer = self.step(call);
@@ -35,7 +35,7 @@ pub fn whole_show<B: BackEnd, P: Order>(
     calls: &[Call<'_, P>],
     answers: &mut [Option<Refusal>],
 ) -> Result<Rig<B>, Refusal>
-    ensures performed { Answers result (make_refusal (serves n t) n t) (λ rig. Performed limit (record { number = number; n = n; t = t }) [] first_day (map (asked places) calls.now) rig.panel rig.book (meaning rig.back) answers.old answers.new) }
+    ensures performed { Answers result (make_refusal (B.serves n t) n t) (λ rig. Performed B.limit (record { number = number; n = n; t = t }) [] first_day (map (asked P.places) calls.now) rig.panel rig.book (B.meaning rig.back) answers.old answers.new) }
     ensures kept { OnErr result (answers.new ≡ answers.old) }
 {
     let mut rig = Rig::<B>::set_up(number, n, t)?;

@@ -30,7 +30,7 @@ pub struct Rig<B: BackEnd> {
 impl<B: BackEnd> Rig<B> {
     // A rig of n consoles of which t may fall, with a back end made for them: 1, 2, 3.
     pub fn set_up(number: u16, n: u8, t: u8) -> Result<Rig<B>, Refusal>
-        ensures { Answers result (make_refusal (serves n t) n t) (λ rig. SetUp number n t rig.panel rig.book × Made n t (meaning rig.back)) }
+        ensures { Answers result (make_refusal (B.serves n t) n t) (λ rig. SetUp number n t rig.panel rig.book × Made n t (B.meaning rig.back)) }
     {
         let back = B::make(n, t)?;
         Ok(Rig {
@@ -43,7 +43,7 @@ impl<B: BackEnd> Rig<B> {
     // Opens a press with the proposals of consoles 1 to n, and gives its ticket: 4, 5, 6.
     pub fn press<P: Order>(&mut self, proposals: &[P]) -> Result<Ticket, Refusal>
         ensures answers { Answers result (press_refusal self.old.panel self.old.book (length proposals.now)) (λ ticket. (ticket.rig ≡ self.old.panel.number) × (ticket.press ≡ self.old.book.count + 1)) }
-        ensures leaves { MatchResult result (λ _. PressLeaves (between places proposals.now) self.old self.new) (λ _. self.new ≡ self.old) }
+        ensures leaves { MatchResult result (λ _. PressLeaves (between P.places proposals.now) self.old self.new) (λ _. self.new ≡ self.old) }
     {
         if self.panel.open {
             return Err(Refusal::PressOpen);
@@ -68,8 +68,8 @@ impl<B: BackEnd> Rig<B> {
         falls: ConsoleSet,
         rows: &[ConsoleSet],
     ) -> Result<(), Refusal>
-        ensures answers { result ≡ answer (turn_refusal self.old.panel (meaning self.old.back) ticket.now.rig ticket.now.press falls rows.now) }
-        ensures leaves { MatchResult result (λ _. RoundLeaves meaning falls rows.now self.old self.new) (λ _. self.new ≡ self.old) }
+        ensures answers { result ≡ answer (turn_refusal self.old.panel (B.meaning self.old.back) ticket.now.rig ticket.now.press falls rows.now) }
+        ensures leaves { MatchResult result (λ _. RoundLeaves B.meaning falls rows.now self.old self.new) (λ _. self.new ≡ self.old) }
     {
         self.advance(ticket.rig, ticket.press, falls, rows)
     }
@@ -82,8 +82,8 @@ impl<B: BackEnd> Rig<B> {
         falls: ConsoleSet,
         rows: &[ConsoleSet],
     ) -> Result<(), Refusal>
-        ensures answers { result ≡ answer (turn_refusal self.old.panel (meaning self.old.back) rig press falls rows.now) }
-        ensures leaves { MatchResult result (λ _. RoundLeaves meaning falls rows.now self.old self.new) (λ _. self.new ≡ self.old) }
+        ensures answers { result ≡ answer (turn_refusal self.old.panel (B.meaning self.old.back) rig press falls rows.now) }
+        ensures leaves { MatchResult result (λ _. RoundLeaves B.meaning falls rows.now self.old self.new) (λ _. self.new ≡ self.old) }
     {
         if !fits(&self.panel, rig, press) {
             return Err(Refusal::WrongTicket);
@@ -131,7 +131,7 @@ impl<B: BackEnd> Rig<B> {
 
     // Performs one call and answers its refusal.
     pub(crate) fn step<P: Order>(&mut self, call: &Call<'_, P>) -> Option<Refusal>
-        ensures { DoneBy meaning (asked places call.now) result self.old self.new }
+        ensures { DoneBy B.meaning (asked P.places call.now) result self.old self.new }
     {
         match *call {
             Call::Press(proposals) => match self.press(proposals) {

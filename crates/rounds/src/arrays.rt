@@ -14,7 +14,7 @@ pub trait Source<T: Copy> {
 
 // The items of all consoles. A read beyond the end gives `blank`.
 pub fn array_of<T: Copy, S: Source<T>>(source: &S, blank: T) -> [T; MAX_CONSOLES]
-    ensures below { (c : ℕ) → c < max_consoles → slice_index_or result c blank ≡ item source.now c }
+    ensures below { (c : ℕ) → c < max_consoles → slice_index_or result c blank ≡ S.item source.now c }
     ensures beyond { (c : ℕ) → max_consoles ≤ c → slice_index_or result c blank ≡ blank }
 {
     let mut array = [blank; MAX_CONSOLES];

@@ -1,4 +1,6 @@
 // What a rig and its back ends share: why a call is refused, what a round is, and the checks that calls meet.
+#![tactic(auto)]
+
 mod arrays;
 mod checks;
 mod faults;

@@ -1,4 +1,6 @@
 // The runner: from a schedule to its sheet.
+#![tactic(auto)]
+
 mod asking;
 mod desk;
 mod ending;

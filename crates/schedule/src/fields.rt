@@ -43,9 +43,9 @@ pub(crate) fn read_each<V: FieldValue>(
     fallen: ConsoleSet,
 ) -> Result<[V; MAX_CONSOLES], u8>
     requires { starts 9 fields.now ≡ true }
-    ensures { result ≡ cond (lowest (λ c. missing (proposal_at says fallen (later 9 fields.now) c)) n == 0)
-        (Ok (each_console n nothing (proposal_at says fallen (later 9 fields.now))))
-        (Err (lowest (λ c. missing (proposal_at says fallen (later 9 fields.now) c)) n)) }
+    ensures { result ≡ cond (lowest (λ c. missing (proposal_at V.says fallen (later 9 fields.now) c)) n == 0)
+        (Ok (each_console n V.nothing (proposal_at V.says fallen (later 9 fields.now))))
+        (Err (lowest (λ c. missing (proposal_at V.says fallen (later 9 fields.now) c)) n)) }
 {
     let mut values = [V::blank(); MAX_CONSOLES];
     let mut rest = fields;

@@ -1,4 +1,6 @@
 // A schedule taken apart: its lines, their kinds, and what their fields say.
+#![tactic(auto)]
+
 mod field;
 mod fields;
 mod line;

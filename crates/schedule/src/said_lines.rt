@@ -58,7 +58,7 @@ pub(crate) fn press_line<V: FieldValue>(
     fallen: ConsoleSet,
 ) -> Result<[V; MAX_CONSOLES], FileRefusal>
     requires { starts 9 fields.now ≡ true }
-    ensures { result ≡ press_said nothing says n fallen line (later 9 fields.now) }
+    ensures { result ≡ press_said V.nothing V.says n fallen line (later 9 fields.now) }
 {
     if count_of(fields, b'\t') != n as usize {
         return Err(FileRefusal::FieldCount { line });

@@ -1,4 +1,6 @@
 // The lines of a sheet, and how they go into a buffer.
+#![tactic(auto)]
+
 mod authors;
 mod lines;
 mod making;

@@ -1,4 +1,6 @@
 // The back end Third: a verdict is an estimate that more than two thirds of all consoles have.
+#![tactic(auto)]
+
 mod calls;
 mod polls;
 mod state;

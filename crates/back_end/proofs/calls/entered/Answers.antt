@@ -8,8 +8,8 @@ use Rattle.back_end.proofs.calls.entered.Goals as goal
 pub returns : goal.returns
 returns c i =
     elim (cases_lt i max_consoles) [
-      | inl l ↦ c.array-of.ensures.below i l
+      | inl l ↦ c.array_of.ensures.below i l
       | inr l ↦
-          c.array-of.ensures.beyond i l
+          c.array_of.ensures.beyond i l
           ∙ sym (cond-false (member c.args.running i) _ _ (member_above max_consoles c.args.running i (omega arith) l))
     ]

@@ -5,10 +5,10 @@ use Rattle.console_sets.specs.Bound.{max_consoles}
 use Rattle.console_sets.proofs.Digits.{member_above}
 use Rattle.console_sets.proofs.members.has.Goals as goal
 
-pub returns-then-c-lt-MAX-CONSOLES : goal.returns-then-c-lt-MAX-CONSOLES
-returns-then-c-lt-MAX-CONSOLES c = ap (λ (x : ℕ). eqb x 1) (and_mask (c.args.s / 2 ^ c.args.c) 1)
+pub returns-then-c-lt-MAX_CONSOLES : goal.returns-then-c-lt-MAX_CONSOLES
+returns-then-c-lt-MAX_CONSOLES c = ap (λ (x : ℕ). eqb x 1) (and_mask (c.args.s / 2 ^ c.args.c) 1)
 
-pub returns-else-c-lt-MAX-CONSOLES : goal.returns-else-c-lt-MAX-CONSOLES
-returns-else-c-lt-MAX-CONSOLES c =
+pub returns-else-c-lt-MAX_CONSOLES : goal.returns-else-c-lt-MAX_CONSOLES
+returns-else-c-lt-MAX_CONSOLES c =
     let far : max_consoles ≤ c.args.c = omega arith in
     le-ltb c.args.c max_consoles far ∙ sym (member_above max_consoles c.args.s c.args.c (omega arith) far)

@@ -7,5 +7,5 @@ use Rattle.front.proofs.consoles.opening_consoles.Goals as goal
 pub returns : goal.returns
 returns c =
     let running = c.args.running in
-    every c.array-of.result (opened running) max_consoles c.fresh.result (fresh 0) c.fresh.ensures c.array-of.ensures.below
-    c.array-of.ensures.beyond (λ i l. ap fresh (outside max_consoles running i (suc i) 0 (omega arith) l))
+    every c.array_of.result (opened running) max_consoles c.fresh.result (fresh 0) c.fresh.ensures c.array_of.ensures.below
+    c.array_of.ensures.beyond (λ i l. ap fresh (outside max_consoles running i (suc i) 0 (omega arith) l))

@@ -8,5 +8,5 @@ use Rattle.front.proofs.deciding.entries.Goals as goal
 pub returns : goal.returns
 unfolding entries_after
 returns c =
-    every c.array-of.result (entries_after c.args.n c.args.t c.args.completing c.args.rows.now (state_of c.args.consoles.now))
-    max_consoles 0 0 refl c.array-of.ensures.below c.array-of.ensures.beyond (λ i l. outside max_consoles c.args.completing i _ 0 (omega arith) l)
+    every c.array_of.result (entries_after c.args.n c.args.t c.args.completing c.args.rows.now (state_of c.args.consoles.now))
+    max_consoles 0 0 refl c.array_of.ensures.below c.array_of.ensures.beyond (λ i l. outside max_consoles c.args.completing i _ 0 (omega arith) l)

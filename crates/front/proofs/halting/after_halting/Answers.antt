@@ -10,6 +10,6 @@ pub returns : goal.returns
 unfolding after_halting
 returns c =
     let s = state_of c.args.consoles.now in
-    every c.array-of.result (after_halting (min c.args.n max_consoles) (at c.args.ranks.now) c.args.completing c.args.rows.now s)
-    max_consoles c.fresh.result (fresh 0) c.fresh.ensures c.array-of.ensures.below c.array-of.ensures.beyond
+    every c.array_of.result (after_halting (min c.args.n max_consoles) (at c.args.ranks.now) c.args.completing c.args.rows.now s)
+    max_consoles c.fresh.result (fresh 0) c.fresh.ensures c.array_of.ensures.below c.array_of.ensures.beyond
     (λ i l. outside max_consoles c.args.completing i _ (s i) (omega arith) l ∙ blank_beyond max_consoles c.args.consoles.now (fresh 0) i (omega arith) l)

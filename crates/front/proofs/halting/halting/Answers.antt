@@ -22,6 +22,6 @@ returns c =
     let n = c.args.n in
     let s = state_of c.args.consoles.now in
     let few : min n max_consoles ≡ n = omega arith in
-    made n (at c.args.ranks.now) c.args.row s c.args.i c.foremost.result c.set-of-halt.result c.console-at-had.result
-    (c.set-of-halt.ensures ∙ ap (set_of (halts c.args.row s c.args.i)) few)
-    (c.foremost.ensures ∙ ap (foremost n (at c.args.ranks.now)) c.candidates-authors.ensures) c.console-at-had.ensures
+    made n (at c.args.ranks.now) c.args.row s c.args.i c.foremost.result c.set_of-halt.result c.console_at-had.result
+    (c.set_of-halt.ensures ∙ ap (set_of (halts c.args.row s c.args.i)) few)
+    (c.foremost.ensures ∙ ap (foremost n (at c.args.ranks.now)) c.candidates-authors.ensures) c.console_at-had.ensures

@@ -3,4 +3,4 @@ use Rattle.front.proofs.precedence.foremost.Goals as goal
 
 pub returns : goal.returns
 unfolding foremost
-returns c = c.lowest-of.ensures
+returns c = c.lowest_of.ensures

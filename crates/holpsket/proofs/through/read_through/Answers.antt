@@ -13,21 +13,21 @@ returns-in-default c =
     through c.args.schedule.now _ (omega arith) some
     (sym c.loop-rest.invariant.0 ∙ lines_bad c.loop-rest.reading c.loop-rest.line c.loop-rest.rest.now left c.in-default.ensures)
 
-pub returns-in-err-reading : goal.returns-in-err-reading
-returns-in-err-reading c =
+pub returns-in_err-reading : goal.returns-in_err-reading
+returns-in_err-reading c =
     let line = line_takes c.loop-rest.rest.now c.in-Some.bytes.now c.in-Some.others.now c.in-Some.ensures in
     let some : 0 < length c.args.schedule.now = omega (arith, line, c.loop-rest.invariant.1) in
-    let p = err_from_is_err_and c.from-residual.result c.from-residual.ensures.1 in
+    let p = err_from_is_err_and c.from_residual.result c.from_residual.ensures.1 in
     rw (p.1, p.2) (through c.args.schedule.now _ (omega arith) some
     (sym c.loop-rest.invariant.0
-    ∙ lines_stop c.loop-rest.reading c.loop-rest.line c.loop-rest.rest.now c.in-Some.bytes.now c.in-Some.others.now c.in-err-reading.field-0.0 c.in-Some.ensures c.in-err-reading.ensures))
+    ∙ lines_stop c.loop-rest.reading c.loop-rest.line c.loop-rest.rest.now c.in-Some.bytes.now c.in-Some.others.now c.in_err-reading.field-0.0 c.in-Some.ensures c.in_err-reading.ensures))
 
 pub loop-rest-smaller : goal.loop-rest-smaller
 loop-rest-smaller c = line_takes c.loop-rest.rest.now c.in-Some.bytes.now c.in-Some.others.now c.in-Some.ensures
 
 pub loop-rest-preserved : goal.loop-rest-preserved
 loop-rest-preserved c = (
-  sym (lines_next c.loop-rest.reading c.loop-rest.line c.loop-rest.rest.now c.in-Some.bytes.now c.in-Some.others.now c.in-ok-reading.reading c.in-Some.ensures c.in-ok-reading.ensures)
+  sym (lines_next c.loop-rest.reading c.loop-rest.line c.loop-rest.rest.now c.in-Some.bytes.now c.in-Some.others.now c.in_ok-reading.reading c.in-Some.ensures c.in_ok-reading.ensures)
       ∙ c.loop-rest.invariant.0,
   omega (arith, line_takes c.loop-rest.rest.now c.in-Some.bytes.now c.in-Some.others.now c.in-Some.ensures, c.loop-rest.invariant.1),
 )

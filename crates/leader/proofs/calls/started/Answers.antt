@@ -8,14 +8,14 @@ use Rattle.leader.proofs.calls.started.Goals as goal
 pub invariant-of-result : goal.invariant-of-result
 invariant-of-result c =
     let b = c.args.b.now in
-    let p = c.in-ok-progress.progress in
-    let e = c.in-ok-progress.ensures in
+    let p = c.in_ok-progress.progress in
+    let e = c.in_ok-progress.ensures in
     let o = c.opened-consoles in
     let r = e.1 (map (λ x. x.verdict) b.consoles) _ (no_verdicts p.entries o.result o.ensures) in
     ghosts (started_keeps c.args.running c.args.entries.now (who o.result) _ _ r b.served (start_ok b.progress.n b.progress.t c.args.running c.args.entries.now e.0) p.within o.ensures)
 
 pub returns : goal.returns
 returns c =
-    let e = c.in-ok-progress.ensures in
+    let e = c.in_ok-progress.ensures in
     let o = c.opened-consoles in
-    (e.0, (e.1 (map (λ x. x.verdict) c.args.b.now.consoles) _ (no_verdicts c.in-ok-progress.progress.entries o.result o.ensures), o.ensures))
+    (e.0, (e.1 (map (λ x. x.verdict) c.args.b.now.consoles) _ (no_verdicts c.in_ok-progress.progress.entries o.result o.ensures), o.ensures))

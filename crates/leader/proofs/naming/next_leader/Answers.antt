@@ -3,4 +3,4 @@ use Rattle.leader.proofs.naming.next_leader.Goals as goal
 
 pub returns : goal.returns
 unfolding next_leader
-returns c = c.lowest-member.ensures
+returns c = c.lowest_member.ensures

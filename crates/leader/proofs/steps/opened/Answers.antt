@@ -8,6 +8,6 @@ use Rattle.leader.proofs.steps.opened.Goals as goal
 pub returns : goal.returns
 returns c i =
     elim (cases_lt i max_consoles) [
-      | inl l ↦ c.array-of.ensures.below i l
-      | inr l ↦ c.array-of.ensures.beyond i l ∙ ap opening (sym (get_or_past c.args.entries.now i 0 (omega arith)))
+      | inl l ↦ c.array_of.ensures.below i l
+      | inr l ↦ c.array_of.ensures.beyond i l ∙ ap opening (sym (get_or_past c.args.entries.now i 0 (omega arith)))
     ]

@@ -7,6 +7,6 @@ use Rattle.orders.proofs.ranking.rank_of.Goals as goal
 
 pub returns : goal.returns
 returns g c =
-    c.count-of.ensures
+    c.count_of.ensures
     ∙ rank-count (length c.args.proposals.now) c.args.running (between g.P.Order.places c.args.proposals.now) max_consoles c.args.author
     (λ i l. member_above max_consoles c.args.running i (omega arith) l)

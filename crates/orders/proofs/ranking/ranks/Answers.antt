@@ -17,7 +17,7 @@ wrote f items i v l below e k h = ap (λ (x : ℕ). get_or (set items i x) k 0) 
 pub loop-c-preserved : goal.loop-c-preserved
 loop-c-preserved g c = (
   length-set c.loop-c.rank-items c.loop-c.c _ ∙ c.loop-c.invariant.0,
-  wrote _ c.loop-c.rank-items c.loop-c.c _ (omega (arith, c.loop-c.invariant.0)) c.loop-c.invariant.1 c.rank-of.ensures,
+  wrote _ c.loop-c.rank-items c.loop-c.c _ (omega (arith, c.loop-c.invariant.0)) c.loop-c.invariant.1 c.rank_of.ensures,
 )
 
 pub returns : goal.returns

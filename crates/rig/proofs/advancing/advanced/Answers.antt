@@ -18,7 +18,7 @@ returns c told h =
       is_open = refl;
       counted = refl;
       ranks = refl;
-      consoles = λ i. c.after-round.ensures i
+      consoles = λ i. c.after_round.ensures i
           ∙ round_alike panel k c.difference-running.result rows (at c.args.verdicts.now) told (omega arith) h i
           ∙ ap (λ (x : ℕ). after_round panel k x rows told i) c.difference-running.ensures;
     }

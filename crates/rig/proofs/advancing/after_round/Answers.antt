@@ -26,11 +26,11 @@ pub returns-then-k-deciding : goal.returns-then-k-deciding
 returns-then-k-deciding c i =
     let panel = c.args.panel.now in
     let few : min panel.n max_consoles ≡ panel.n = omega arith in
-    c.after-halting.ensures i
+    c.after_halting.ensures i
     ∙ ap (λ (x : ℕ). after_halting x (at panel.ranks) c.args.completing c.args.rows.now (state_of panel.consoles) i) few
     ∙ sym (ap (λ (s : State). s i) (halting-round panel c.args.k c.args.completing c.args.rows.now (at c.args.verdicts.now) (omega arith)))
 
 pub returns-then-k-deciding-2 : goal.returns-then-k-deciding-2
 returns-then-k-deciding-2 c i =
-    c.after-deciding.ensures i
+    c.after_deciding.ensures i
     ∙ sym (ap (λ (s : State). s i) (deciding-round c.args.panel.now c.args.k c.args.completing c.args.rows.now (at c.args.verdicts.now) (omega arith)))

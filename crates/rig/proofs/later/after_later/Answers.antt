@@ -10,6 +10,6 @@ pub returns : goal.returns
 unfolding after_later
 returns c =
     let s = state_of c.args.consoles.now in
-    every c.array-of.result (after_later c.args.n c.args.k c.args.completing c.args.rows.now (at c.args.verdicts.now) s)
-    max_consoles c.nothing.result (fresh 0) c.nothing.ensures c.array-of.ensures.below c.array-of.ensures.beyond
+    every c.array_of.result (after_later c.args.n c.args.k c.args.completing c.args.rows.now (at c.args.verdicts.now) s)
+    max_consoles c.nothing.result (fresh 0) c.nothing.ensures c.array_of.ensures.below c.array_of.ensures.beyond
     (λ i l. outside max_consoles c.args.completing i _ (s i) (omega arith) l ∙ blank_beyond max_consoles c.args.consoles.now (fresh 0) i (omega arith) l)

@@ -39,21 +39,21 @@ module _ (n k row verdict : ℕ) (s : State) (i : ℕ) (had : Console) (o : had 
 
 pub returns-then-had-ne0 : goal.returns-then-had-ne0
 returns-then-had-ne0 c =
-    kept c.args.n c.args.k c.args.row c.args.verdict (state_of c.args.consoles.now) c.args.i _ c.console-at-had.ensures c.if-had-ne0.true
+    kept c.args.n c.args.k c.args.row c.args.verdict (state_of c.args.consoles.now) c.args.i _ c.console_at-had.ensures c.if-had-ne0.true
 
 pub returns-in-0-eq0 : goal.returns-in-0-eq0
 returns-in-0-eq0 c =
-    open-still c.args.n c.args.k c.args.row c.args.verdict (state_of c.args.consoles.now) c.args.i _ c.console-at-had.ensures c.if-had-ne0.false
-    (sym c.lowest-of.ensures ∙ c.in-0-eq0.is-0) c.in-0-eq0.is-1
+    open-still c.args.n c.args.k c.args.row c.args.verdict (state_of c.args.consoles.now) c.args.i _ c.console_at-had.ensures c.if-had-ne0.false
+    (sym c.lowest_of.ensures ∙ c.in-0-eq0.is-0) c.in-0-eq0.is-1
 
 pub returns-in-0-default : goal.returns-in-0-default
 returns-in-0-default c =
     c.decided.ensures
-    ∙ backed c.args.n c.args.k c.args.row c.args.verdict (state_of c.args.consoles.now) c.args.i _ c.console-at-had.ensures c.if-had-ne0.false
-    (sym c.lowest-of.ensures ∙ c.in-0-default.is-0) (λ z. omega arith)
+    ∙ backed c.args.n c.args.k c.args.row c.args.verdict (state_of c.args.consoles.now) c.args.i _ c.console_at-had.ensures c.if-had-ne0.false
+    (sym c.lowest_of.ensures ∙ c.in-0-default.is-0) (λ z. omega arith)
 
 pub returns-in-default : goal.returns-in-default
 returns-in-default c =
     c.decided-in-default.ensures
-    ∙ relayed c.args.n c.args.k c.args.row c.args.verdict (state_of c.args.consoles.now) c.args.i _ _ _ c.console-at-had.ensures c.if-had-ne0.false
-    c.lowest-of.ensures (λ z. omega arith) c.console-at.ensures
+    ∙ relayed c.args.n c.args.k c.args.row c.args.verdict (state_of c.args.consoles.now) c.args.i _ _ _ c.console_at-had.ensures c.if-had-ne0.false
+    c.lowest_of.ensures (λ z. omega arith) c.console_at.ensures

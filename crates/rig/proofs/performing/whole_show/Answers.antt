@@ -5,7 +5,7 @@ use Rattle.rig.proofs.performing.whole_show.Goals as goal
 
 pub returns : goal.returns
 returns g c =
-    let a = c.in-ok-rig.ensures in
+    let a = c.in_ok-rig.ensures in
     let s : Setting = record { number = c.args.number; n = c.args.n; t = c.args.t } in
     record {
       performed = (

@@ -14,7 +14,7 @@ pub returns : goal.returns
 returns c =
     let n = c.args.n in
     let set = c.args.set in
-    c.is-within.ensures ∙ ap (inside set) c.all-of.ensures
+    c.is_within.ensures ∙ ap (inside set) c.all_of.ensures
     ∙ elim (cases_lt n max_consoles) [
       | inl l ↦ let e : min n max_consoles ≡ n = omega arith in ap (λ (m : ℕ). inside set (all m)) e
       | inr l ↦

@@ -6,7 +6,7 @@ use Rattle.schedule.proofs.fields.nth_field.Goals as goal
 
 pub loop-preserved : goal.loop-preserved
 loop-preserved c =
-    (c.next-field.ensures.tabbed, c.next-field.ensures.others ∙ ap (drop 1) c.loop.invariant.1 ∙ drop-drop 1 c.loop.counter (later 9 c.args.fields.now))
+    (c.next_field.ensures.tabbed, c.next_field.ensures.others ∙ ap (drop 1) c.loop.invariant.1 ∙ drop-drop 1 c.loop.counter (later 9 c.args.fields.now))
 
 pub returns : goal.returns
-returns c = c.next-field-2.ensures.first ∙ first_left (later 9 c.args.fields.now) (later 9 c.loop.rest.now) c.loop.counter c.args.i (omega arith) c.loop.invariant.1
+returns c = c.next_field-2.ensures.first ∙ first_left (later 9 c.args.fields.now) (later 9 c.loop.rest.now) c.loop.counter c.args.i (omega arith) c.loop.invariant.1

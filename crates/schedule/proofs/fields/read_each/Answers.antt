@@ -4,24 +4,24 @@ use Rattle.schedule.specs.Said.{proposal_at}
 use Rattle.schedule.proofs.Each.{next_is, sofar_more, answers_bad, answers_all}
 use Rattle.schedule.proofs.fields.read_each.Given as given
 use Rattle.schedule.proofs.fields.read_each.Goals as goal
-use Rattle.schedule.proofs.fields.read_each.Goals.{then-c-lt-MAX-CONSOLES, else-c-lt-MAX-CONSOLES}
+use Rattle.schedule.proofs.fields.read_each.Goals.{then-c-lt-MAX_CONSOLES, else-c-lt-MAX_CONSOLES}
 
 pub returns-in-default : goal.returns-in-default
 returns-in-default g c =
     let says = proposal_at g.V.FieldValue.says c.args.fallen (later 9 c.args.fields.now) in
-    let field = c.next-field.ensures.first ∙ next_is g.V.FieldValue.nothing says c.args.fields.now c.loop-c.rest.now c.loop-c.values c.loop-c.c c.loop-c.invariant in
+    let field = c.next_field.ensures.first ∙ next_is g.V.FieldValue.nothing says c.args.fields.now c.loop-c.rest.now c.loop-c.values c.loop-c.c c.loop-c.invariant in
     let is = sym (λ j. g.V.FieldValue.says (c.has.ensures j) (field j)) ∙ sym c.read.ensures ∙ c.in-default.is in
     answers_bad g.V.FieldValue.nothing says c.args.fields.now c.loop-c.rest.now c.loop-c.values c.loop-c.c c.args.n c.loop-c.invariant (omega arith) is
 
 pub loop-c-preserved : goal.loop-c-preserved
 loop-c-preserved g c =
     let says = proposal_at g.V.FieldValue.says c.args.fallen (later 9 c.args.fields.now) in
-    let field = c.next-field.ensures.first ∙ next_is g.V.FieldValue.nothing says c.args.fields.now c.loop-c.rest.now c.loop-c.values c.loop-c.c c.loop-c.invariant in
+    let field = c.next_field.ensures.first ∙ next_is g.V.FieldValue.nothing says c.args.fields.now c.loop-c.rest.now c.loop-c.values c.loop-c.c c.loop-c.invariant in
     let is = sym (λ j. g.V.FieldValue.says (c.has.ensures j) (field j)) ∙ sym c.read.ensures ∙ c.in-Some.is in
-    sofar_more g.V.FieldValue.nothing says c.args.fields.now c.loop-c.rest.now c.next-field.result.1.now
-    c.loop-c.values c.if-c-lt-MAX-CONSOLES.values c.loop-c.c c.in-Some.value c.loop-c.invariant is
-    c.next-field.ensures.tabbed c.next-field.ensures.others
-    (elim c.if-c-lt-MAX-CONSOLES.branch [ then-c-lt-MAX-CONSOLES w ↦ inl w.values-is | else-c-lt-MAX-CONSOLES w ↦ inr (w.values-is, omega arith) ])
+    sofar_more g.V.FieldValue.nothing says c.args.fields.now c.loop-c.rest.now c.next_field.result.1.now
+    c.loop-c.values c.if-c-lt-MAX_CONSOLES.values c.loop-c.c c.in-Some.value c.loop-c.invariant is
+    c.next_field.ensures.tabbed c.next_field.ensures.others
+    (elim c.if-c-lt-MAX_CONSOLES.branch [ then-c-lt-MAX_CONSOLES w ↦ inl w.values-is | else-c-lt-MAX_CONSOLES w ↦ inr (w.values-is, omega arith) ])
 
 pub returns : goal.returns
 returns g c =

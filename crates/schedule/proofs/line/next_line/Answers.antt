@@ -3,7 +3,7 @@ use Rattle.schedule.proofs.NextLine.{is_line, one_line}
 use Rattle.schedule.proofs.line.next_line.Goals as goal
 
 pub returns-in-10 : goal.returns-in-10
-returns-in-10 c = let short = sym c.if-is-short.ensures in search (rules, is_line)
+returns-in-10 c = let short = sym c.if-is_short.ensures in search (rules, is_line)
 
 pub returns-in-default : goal.returns-in-default
 returns-in-default c = λ a b h.

@@ -3,14 +3,14 @@ use Rattle.std.proofs.lemmas.List.{take_rest}
 use Rattle.schedule.proofs.Parted.{take_before, drop_before, length_before}
 use Rattle.schedule.proofs.parts.cut.Goals as goal
 
-pub slice-bounds-result-end : goal.slice-bounds-result-end
-slice-bounds-result-end c = omega (arith, length_before c.args.stop c.args.bytes.now)
+pub slice_bounds-result-end : goal.slice_bounds-result-end
+slice_bounds-result-end c = omega (arith, length_before c.args.stop c.args.bytes.now)
 
-pub slice-bounds-result-count-2 : goal.slice-bounds-result-count-2
-slice-bounds-result-count-2 c = omega (arith, length_before c.args.stop c.args.bytes.now)
+pub slice_bounds-result-count-2 : goal.slice_bounds-result-count-2
+slice_bounds-result-count-2 c = omega (arith, length_before c.args.stop c.args.bytes.now)
 
-pub slice-bounds-result-start-2 : goal.slice-bounds-result-start-2
-slice-bounds-result-start-2 c = omega (arith, length_before c.args.stop c.args.bytes.now)
+pub slice_bounds-result-start-2 : goal.slice_bounds-result-start-2
+slice_bounds-result-start-2 c = omega (arith, length_before c.args.stop c.args.bytes.now)
 
 pub returns : goal.returns
 returns c = record {

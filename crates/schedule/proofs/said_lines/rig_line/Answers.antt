@@ -8,11 +8,11 @@ returns-in-default c = search (rules, rig_is)
 pub returns-in-default-number : goal.returns-in-default-number
 returns-in-default-number c = search (rules, rig_is)
 
-pub returns-in-default-proposal-kind : goal.returns-in-default-proposal-kind
-returns-in-default-proposal-kind c = search (rules, rig_is)
+pub returns-in-default-proposal_kind : goal.returns-in-default-proposal_kind
+returns-in-default-proposal_kind c = search (rules, rig_is)
 
-pub returns-in-default-back-end-kind : goal.returns-in-default-back-end-kind
-returns-in-default-back-end-kind c = search (rules, rig_is)
+pub returns-in-default-back_end_kind : goal.returns-in-default-back_end_kind
+returns-in-default-back_end_kind c = search (rules, rig_is)
 
 pub returns-in-default-number-2 : goal.returns-in-default-number-2
 returns-in-default-number-2 c = search (rules, rig_is)

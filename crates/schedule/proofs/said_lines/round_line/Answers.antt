@@ -7,18 +7,18 @@ use Rattle.schedule.proofs.said_lines.round_line.Goals as goal
 
 pub returns-in-default : goal.returns-in-default
 returns-in-default c =
-    let said = sym c.in-default.is ∙ c.set.ensures ∙ ap set_said c.next-field.ensures.first in
+    let said = sym c.in-default.is ∙ c.set.ensures ∙ ap set_said c.next_field.ensures.first in
     sym (round_is c.args.n c.args.line (later 9 c.args.fields.now) (omega arith)
     ∙ sym (ap (λ o. round_answer c.args.line o (walk c.args.n (λ i. set_said (field (later 9 c.args.fields.now) (suc i))))) said))
 
 pub returns-in-Ok : goal.returns-in-Ok
 returns-in-Ok c =
-    let said = sym c.in-Some.is ∙ c.set.ensures ∙ ap set_said c.next-field.ensures.first in
-    let rows = sym c.in-Ok.is ∙ c.read-each.ensures ∙ row_behind c.args.n c.args.line (later 9 c.args.fields.now) (later 9 c.next-field.result.1.now) c.next-field.ensures.others in
+    let said = sym c.in-Some.is ∙ c.set.ensures ∙ ap set_said c.next_field.ensures.first in
+    let rows = sym c.in-Ok.is ∙ c.read_each.ensures ∙ row_behind c.args.n c.args.line (later 9 c.args.fields.now) (later 9 c.next_field.result.1.now) c.next_field.ensures.others in
     sym (round_is c.args.n c.args.line (later 9 c.args.fields.now) (omega arith) ∙ sym (λ j. round_answer c.args.line (said j) (rows j)))
 
 pub returns-in-Err : goal.returns-in-Err
 returns-in-Err c =
-    let said = sym c.in-Some.is ∙ c.set.ensures ∙ ap set_said c.next-field.ensures.first in
-    let rows = sym c.in-Err.is ∙ c.read-each.ensures ∙ row_behind c.args.n c.args.line (later 9 c.args.fields.now) (later 9 c.next-field.result.1.now) c.next-field.ensures.others in
+    let said = sym c.in-Some.is ∙ c.set.ensures ∙ ap set_said c.next_field.ensures.first in
+    let rows = sym c.in-Err.is ∙ c.read_each.ensures ∙ row_behind c.args.n c.args.line (later 9 c.args.fields.now) (later 9 c.next_field.result.1.now) c.next_field.ensures.others in
     sym (round_is c.args.n c.args.line (later 9 c.args.fields.now) (omega arith) ∙ sym (λ j. round_answer c.args.line (said j) (rows j)))

@@ -16,13 +16,13 @@ short Back = omega arith
 
 pub long-requires : goal.long-requires
 long-requires c =
-    let word : length c.as-bytes.result.now ≤ 5 = omega (arith, ap length (c.as-bytes.ensures.value ∙ c.word.ensures), short c.args.console.now.cause) in
+    let word : length c.as_bytes.result.now ≤ 5 = omega (arith, ap length (c.as_bytes.ensures.value ∙ c.word.ensures), short c.args.console.now.cause) in
     let digits = length-decimal-le 20 c.wait.result (omega arith) (omega (arith, c.wait.type-inv)) c.wait.type-inv in
     omega (arith, c.begin.ensures.used, c.small.ensures.used, c.small-2.ensures.used, c.set.ensures.used, c.small-3.ensures.used, c.number.ensures.used, c.field.ensures.used)
 
 pub end-requires : goal.end-requires
 end-requires c =
-    let word : length c.as-bytes.result.now ≤ 5 = omega (arith, ap length (c.as-bytes.ensures.value ∙ c.word.ensures), short c.args.console.now.cause) in
+    let word : length c.as_bytes.result.now ≤ 5 = omega (arith, ap length (c.as_bytes.ensures.value ∙ c.word.ensures), short c.args.console.now.cause) in
     let digits = length-decimal-le 20 c.wait.result (omega arith) (omega (arith, c.wait.type-inv)) c.wait.type-inv in
     omega (arith, c.begin.ensures.used, c.small.ensures.used, c.small-2.ensures.used, c.set.ensures.used, c.small-3.ensures.used, c.number.ensures.used, c.field.ensures.used, c.long.ensures.used)
 
@@ -36,7 +36,7 @@ returns c =
     let f4 = decimal console.decision in
     let f5 = decimal console.round in
     let f6 = word_of console.cause in
-    let f7 = decimal (wait console.round c.args.round-length) in
+    let f7 = decimal (wait console.round c.args.round_length) in
     ended word (f1 ∷ (f2 ∷ (f3 ∷ (f4 ∷ (f5 ∷ (f6 ∷ (f7 ∷ [])))))))
     (one_more word (f1 ∷ (f2 ∷ (f3 ∷ (f4 ∷ (f5 ∷ (f6 ∷ [])))))) f7
     (one_more word (f1 ∷ (f2 ∷ (f3 ∷ (f4 ∷ (f5 ∷ []))))) f6
@@ -50,6 +50,6 @@ returns c =
     c.set.ensures.holds refl)
     c.small-3.ensures.holds refl)
     c.number.ensures.holds refl)
-    c.field.ensures.holds (c.as-bytes.ensures.value ∙ c.word.ensures))
+    c.field.ensures.holds (c.as_bytes.ensures.value ∙ c.word.ensures))
     c.long.ensures.holds (ap decimal c.wait.ensures.is))
     c.end.ensures

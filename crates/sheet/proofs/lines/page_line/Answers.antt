@@ -18,7 +18,7 @@ returns c =
     (one_more word (f1 ∷ []) f2
     (one_more word [] f1 (begun word c.begin.ensures.holds)
     c.number.ensures.holds refl)
-    c.field.ensures.holds (c.as-bytes.ensures.value ∙ c.end-word.ensures.holds))
+    c.field.ensures.holds (c.as_bytes.ensures.value ∙ c.end_word.ensures.holds))
     c.number-2.ensures.holds refl)
-    c.small.ensures.holds (ap decimal c.author-of.ensures))
+    c.small.ensures.holds (ap decimal c.author_of.ensures))
     c.end.ensures

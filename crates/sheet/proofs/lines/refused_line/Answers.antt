@@ -16,7 +16,7 @@ returns c =
     (one_more word (f1 ∷ []) f2
     (one_more word [] f1 (begun word c.begin.ensures.holds)
     c.small.ensures.holds refl)
-    c.field.ensures.holds (c.as-bytes.ensures.value ∙ c.layer-word.ensures.holds))
+    c.field.ensures.holds (c.as_bytes.ensures.value ∙ c.layer_word.ensures.holds))
     c.number.ensures.holds refl)
     c.number-2.ensures.holds refl)
     c.end.ensures

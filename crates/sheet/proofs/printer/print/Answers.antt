@@ -13,8 +13,8 @@ returns-in-Some c =
     record {
       answers = ap Ok e ∙ p.answers;
       leaves =
-          put_part c.args.out.now c.copy-from-slice.new.self l c.args.len (c.in-Some.end - c.args.len)
-          (c.copy-from-slice.ensures.after ∙ c.bytes-bytes.ensures) (omega arith)
+          put_part c.args.out.now c.copy_from_slice.new.self l c.args.len (c.in-Some.end - c.args.len)
+          (c.copy_from_slice.ensures.after ∙ c.bytes-bytes.ensures) (omega arith)
           ∙ p.leaves;
     }
 

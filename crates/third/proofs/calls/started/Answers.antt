@@ -8,13 +8,13 @@ use Rattle.third.proofs.calls.started.Goals as goal
 pub invariant-of-result : goal.invariant-of-result
 invariant-of-result c =
     let b = c.args.b.now in
-    let p = c.in-ok-progress.progress in
-    let e = c.in-ok-progress.ensures in
+    let p = c.in_ok-progress.progress in
+    let e = c.in_ok-progress.ensures in
     let s = e.1 b.verdicts (replicate max_consoles 0) (λ i. blank max_consoles i 0) in
     let k = started_keeps b.progress.t c.args.running c.args.entries.now _ _ s b.served p.within (start_ok _ _ _ _ e.0) in
     (k.served, (k.entered, (k.listed, (k.estimating, (k.backed, (k.even, (k.settled, tt)))))))
 
 pub returns : goal.returns
 returns c =
-    let e = c.in-ok-progress.ensures in
+    let e = c.in_ok-progress.ensures in
     (e.0, (e.1 c.args.b.now.verdicts (replicate max_consoles 0) (λ i. blank max_consoles i 0), refl))

@@ -1,7 +1,7 @@
 use Rattle.std.proofs.Common.{ℕ, ◌^◌, ◌<◌, sym, subst, arith}
 use Rattle.console_sets.proofs.Digits.{without_lt}
 use Rattle.back_end.proofs.progress.Progress.advanced.Goals as goal
-use Rattle.back_end.proofs.progress.Progress.advanced.Goals.{then-is-steady, else-is-steady}
+use Rattle.back_end.proofs.progress.Progress.advanced.Goals.{then-is_steady, else-is_steady}
 
 pub invariant-of-result : goal.invariant-of-result
 invariant-of-result c =
@@ -10,9 +10,9 @@ invariant-of-result c =
       (
         subst (λ (r : ℕ). r < 2 ^ p.n) (sym c.difference-running.ensures) (without_lt p.n p.running c.args.falls p.within),
         (
-          elim c.if-is-steady.branch [
-            | then-is-steady w ↦ omega (arith, w.steady-is, p.counted)
-            | else-is-steady w ↦ omega (arith, w.steady-is)
+          elim c.if-is_steady.branch [
+            | then-is_steady w ↦ omega (arith, w.steady-is, p.counted)
+            | else-is_steady w ↦ omega (arith, w.steady-is)
           ],
           tt,
         ),

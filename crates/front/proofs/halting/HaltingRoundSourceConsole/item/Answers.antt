@@ -11,9 +11,9 @@ returns-then-has c =
     let s = state_of c.args.self.now.consoles.now in
     let rank = at c.args.self.now.ranks.now in
     c.halting.ensures
-    ∙ ap₂ (λ (n row : ℕ). halting n rank row s c.args.c) c.min-n.ensures c.item-or.ensures
+    ∙ ap₂ (λ (n row : ℕ). halting n rank row s c.args.c) c.min-n.ensures c.item_or.ensures
     ∙ sym (cond-true _ _ _ (sym c.if-has.ensures))
 
 pub returns-else-has : goal.returns-else-has
 unfolding after_halting
-returns-else-has c = c.console-at.ensures ∙ sym (cond-false _ _ _ (sym c.if-has.ensures))
+returns-else-has c = c.console_at.ensures ∙ sym (cond-false _ _ _ (sym c.if-has.ensures))

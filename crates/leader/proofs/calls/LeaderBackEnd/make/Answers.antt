@@ -7,14 +7,14 @@ use Rattle.leader.proofs.calls.LeaderBackEnd.make.Goals as goal
 
 pub invariant-of-result : goal.invariant-of-result
 invariant-of-result c =
-    let p = c.in-ok-progress.progress in
-    let e = c.in-ok-progress.ensures in
+    let p = c.in_ok-progress.progress in
+    let e = c.in_ok-progress.ensures in
     let o = c.opened in
-    let served = sym (ap (λ (b : Bool). make_refusal b c.args.n c.args.t) c.is-served.ensures) ∙ e.0 in
+    let served = sym (ap (λ (b : Bool). make_refusal b c.args.n c.args.t) c.is_served.ensures) ∙ e.0 in
     ghosts (made_keeps c.args.n c.args.t (who o.result) _ (e.1 _ (no_verdicts p.entries o.result o.ensures)) served p.within o.ensures)
 
 pub returns : goal.returns
 returns c =
-    let e = c.in-ok-progress.ensures in
+    let e = c.in_ok-progress.ensures in
     let o = c.opened in
-    (sym (ap (λ (b : Bool). make_refusal b c.args.n c.args.t) c.is-served.ensures) ∙ e.0, e.1 _ (no_verdicts c.in-ok-progress.progress.entries o.result o.ensures))
+    (sym (ap (λ (b : Bool). make_refusal b c.args.n c.args.t) c.is_served.ensures) ∙ e.0, e.1 _ (no_verdicts c.in_ok-progress.progress.entries o.result o.ensures))

@@ -5,4 +5,4 @@ use Rattle.leader.proofs.calls.LeaderBackEnd.verdict.Goals as goal
 
 pub returns : goal.returns
 returns c =
-    (search rules, ap (λ (x : Console). x.verdict) c.console-at.ensures ∙ sym (verdict_at c.args.self.now.consoles (c.args.console - 1)))
+    (search rules, ap (λ (x : Console). x.verdict) c.console_at.ensures ∙ sym (verdict_at c.args.self.now.consoles (c.args.console - 1)))

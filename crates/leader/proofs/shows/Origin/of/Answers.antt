@@ -13,7 +13,7 @@ pub returns-in-0 : goal.returns-in-0
 returns-in-0 c =
     let h = c.args.heard in
     let s = who h.consoles.now in
-    let stamp = c.largest-of-stamp in
+    let stamp = c.largest_of-stamp in
     let l = found (λ p. lowest (λ d. p d && majority h.n (common h.row h.namers.now d)) h.n) h.n h.row s stamp.result stamp.ensures in
     let f = found (λ p. lowest p h.n) h.n h.row s stamp.result stamp.ensures in
     search rules
@@ -21,6 +21,6 @@ returns-in-0 c =
 pub returns-in-default : goal.returns-in-default
 returns-in-default c =
     let h = c.args.heard in
-    let stamp = c.largest-of-stamp in
+    let stamp = c.largest_of-stamp in
     let l = found (λ p. lowest (λ d. p d && majority h.n (common h.row h.namers.now d)) h.n) h.n h.row (who h.consoles.now) stamp.result stamp.ensures in
     search rules

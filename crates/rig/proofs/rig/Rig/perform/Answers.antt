@@ -21,11 +21,11 @@ loop-i-preserved g c s cs show led st =
     let within : i ≤ length xs = omega arith in
     let len : length asks ≡ i = length-map (take i xs) f ∙ length-take-le i xs within in
     let grown : map f (take (i + 1) xs) ≡ asks ++ f x ∷ [] = map_more f xs i x (omega arith) ∙ ap (λ (y : _). asks ++ f y ∷ []) (sym c.index-calls-i.is) in
-    subst (λ (y : List Asked). Partly g.B.BackEnd.limit s cs show y a.panel a.book (g.B.BackEnd.meaning a.back) c.args.answers.now c.write-down.new.answers) (sym grown)
-    (partly_more asks (f x) c.step-answer.result c.write-down.new.answers (c.loop-i.invariant s cs show led st) c.step-answer.ensures
+    subst (λ (y : List Asked). Partly g.B.BackEnd.limit s cs show y a.panel a.book (g.B.BackEnd.meaning a.back) c.args.answers.now c.write_down.new.answers) (sym grown)
+    (partly_more asks (f x) c.step-answer.result c.write_down.new.answers (c.loop-i.invariant s cs show led st) c.step-answer.ensures
     (brings g.P.Order.places (record { mirrored = laws.mirrored; onward = laws.onward; alike = laws.alike }) g.B.BackEnd.limit x (g.B.BackEnd.meaning a.back) (kept.agrees a.back) (kept.settles a.back))
-    (λ l. c.write-down.ensures.there (omega arith) ∙ ap (λ (k : ℕ). set c.loop-i.answers k c.step-answer.result) (sym len))
-    (λ l. c.write-down.ensures.past (omega arith)) (omega arith))
+    (λ l. c.write_down.ensures.there (omega arith) ∙ ap (λ (k : ℕ). set c.loop-i.answers k c.step-answer.result) (sym len))
+    (λ l. c.write_down.ensures.past (omega arith)) (omega arith))
 
 pub returns : goal.returns
 returns g c s cs show led st =

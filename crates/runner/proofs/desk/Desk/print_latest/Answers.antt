@@ -19,8 +19,8 @@ returns-in-Ok g c s show st shut =
     (λ j. lines_of (min (c.n.ensures.is j) max_consoles) micros ((found.1 ∙ ap (page_at rig.book) c.latest.ensures) j))
     ∙ page_lines_are st.1.stands shut micros (omega (arith, c.n.ensures.is, c.n.ensures.few)) (ap (page_refusal rig.book) (sym c.latest.ensures) ∙ found.0) in
     record {
-      answers = c.print-page.ensures.answers ∙ ap (print_answer (length xs) len) lines;
-      leaves = c.print-page.ensures.leaves ∙ ap (λ (ls : List (List ℕ)). put xs len (fit (length xs) len ls)) lines;
+      answers = c.print_page.ensures.answers ∙ ap (print_answer (length xs) len) lines;
+      leaves = c.print_page.ensures.leaves ∙ ap (λ (ls : List (List ℕ)). put xs len (fit (length xs) len ls)) lines;
     }
 
 pub returns-in-Err : goal.returns-in-Err

@@ -8,7 +8,7 @@ invariant-of-result c =
     let l : c.args.self.len + length c.args.bytes.now ≤ length c.args.self.bytes = omega (arith, c.requires, c.args.self.long) in (
       c.requires,
       (
-        ap length (put_part c.args.self.bytes c.copy-from-slice.new.self c.args.bytes.now c.args.self.len _ c.copy-from-slice.ensures.after (omega arith))
+        ap length (put_part c.args.self.bytes c.copy_from_slice.new.self c.args.bytes.now c.args.self.len _ c.copy_from_slice.ensures.after (omega arith))
             ∙ length-put c.args.self.bytes c.args.self.len c.args.bytes.now l
             ∙ c.args.self.long,
         tt,
@@ -21,7 +21,7 @@ returns c =
     record {
       holds =
           ap (take (c.args.self.len + length c.args.bytes.now))
-          (put_part c.args.self.bytes c.copy-from-slice.new.self c.args.bytes.now c.args.self.len _ c.copy-from-slice.ensures.after (omega arith))
+          (put_part c.args.self.bytes c.copy_from_slice.new.self c.args.bytes.now c.args.self.len _ c.copy_from_slice.ensures.after (omega arith))
           ∙ take_put c.args.self.bytes c.args.self.len c.args.bytes.now l;
       used = refl;
     }

@@ -11,14 +11,14 @@ pub invariant-of-result : goal.invariant-of-result
 invariant-of-result c =
     let n = c.args.n in
     let t = c.args.t in
-    let e = c.in-ok-progress.ensures in
-    let served : 3 * t < n = ltb-true (3 * t) n (sym c.is-served.ensures ∙ (make_ok c.is-served.result n t e.0).0) in
-    let k = made_keeps n t _ (e.1 (replicate max_consoles 0) (λ i. blank max_consoles i 0)) served c.in-ok-progress.progress.within in
+    let e = c.in_ok-progress.ensures in
+    let served : 3 * t < n = ltb-true (3 * t) n (sym c.is_served.ensures ∙ (make_ok c.is_served.result n t e.0).0) in
+    let k = made_keeps n t _ (e.1 (replicate max_consoles 0) (λ i. blank max_consoles i 0)) served c.in_ok-progress.progress.within in
     (k.served, (k.entered, (k.listed, (k.estimating, (k.backed, (k.even, (k.settled, tt)))))))
 
 pub returns : goal.returns
 returns c =
-    let e = c.in-ok-progress.ensures in (
-      sym (ap (λ (s : Bool). make_refusal s c.args.n c.args.t) c.is-served.ensures) ∙ e.0,
+    let e = c.in_ok-progress.ensures in (
+      sym (ap (λ (s : Bool). make_refusal s c.args.n c.args.t) c.is_served.ensures) ∙ e.0,
       e.1 (replicate max_consoles 0) (λ i. blank max_consoles i 0),
     )
