@@ -17,10 +17,10 @@ returns-in-0 c =
     ap Entry (add-one c.args.i ∙ sym (cond-false _ _ _ (ap not (eq-eqb _ 0 (sym c.lowest_of-2.ensures ∙ c.in-0.is)))))
     ∙ sym (cond-true _ _ _ (ap not (ne_eqb _ 0 (λ z. c.if-lowest_of-eq0.false (c.lowest_of.ensures ∙ z)))))
 
-pub returns-in-default : goal.returns-in-default
+pub returns-in_default : goal.returns-in_default
 unfolding outcome_of
-returns-in-default c =
+returns-in_default c =
     let found : c.lowest_of-2.result ≡ 0 → ⊥ = λ z. omega arith in
-    ap Entry (c.estimate_of-in-default.ensures ∙ ap (estimate_of (state_of c.args.consoles.now)) c.lowest_of-2.ensures
+    ap Entry (c.estimate_of-in_default.ensures ∙ ap (estimate_of (state_of c.args.consoles.now)) c.lowest_of-2.ensures
     ∙ sym (cond-true _ _ _ (ap not (ne_eqb _ 0 (λ z. found (c.lowest_of-2.ensures ∙ z))))))
     ∙ sym (cond-true _ _ _ (ap not (ne_eqb _ 0 (λ z. c.if-lowest_of-eq0.false (c.lowest_of.ensures ∙ z)))))

@@ -6,12 +6,12 @@ use Rattle.holpsket.specs.Through.{lines}
 use Rattle.holpsket.proofs.Lines.{lines_none, lines_bad, lines_next, lines_stop, line_takes, through}
 use Rattle.holpsket.proofs.through.read_through.Goals as goal
 
-pub returns-in-default : goal.returns-in-default
-returns-in-default c =
+pub returns-in_default : goal.returns-in_default
+returns-in_default c =
     let some : 0 < length c.args.schedule.now = search rules in
     let left : 0 < length c.loop-rest.rest.now = search rules in
     through c.args.schedule.now _ (omega arith) some
-    (sym c.loop-rest.invariant.0 ∙ lines_bad c.loop-rest.reading c.loop-rest.line c.loop-rest.rest.now left c.in-default.ensures)
+    (sym c.loop-rest.invariant.0 ∙ lines_bad c.loop-rest.reading c.loop-rest.line c.loop-rest.rest.now left c.in_default.ensures)
 
 pub returns-in_err-reading : goal.returns-in_err-reading
 returns-in_err-reading c =

@@ -52,8 +52,8 @@ returns-in-0-default c =
     ∙ backed c.args.n c.args.k c.args.row c.args.verdict (state_of c.args.consoles.now) c.args.i _ c.console_at-had.ensures c.if-had-ne0.false
     (sym c.lowest_of.ensures ∙ c.in-0-default.is-0) (λ z. omega arith)
 
-pub returns-in-default : goal.returns-in-default
-returns-in-default c =
-    c.decided-in-default.ensures
+pub returns-in_default : goal.returns-in_default
+returns-in_default c =
+    c.decided-in_default.ensures
     ∙ relayed c.args.n c.args.k c.args.row c.args.verdict (state_of c.args.consoles.now) c.args.i _ _ _ c.console_at-had.ensures c.if-had-ne0.false
     c.lowest_of.ensures (λ z. omega arith) c.console_at.ensures

@@ -7,10 +7,10 @@ use Rattle.runner.proofs.Pieces.{line_takes}
 use Rattle.runner.proofs.From.{first_line, first_bad}
 use Rattle.runner.proofs.running.rig_line.Goals as goal
 
-pub returns-in-default : goal.returns-in-default
-returns-in-default c =
+pub returns-in_default : goal.returns-in_default
+returns-in_default c =
     let some : 0 < length c.args.schedule.now = search rules in
-    first_bad c.args.schedule.now (omega arith) some c.in-default.ensures
+    first_bad c.args.schedule.now (omega arith) some c.in_default.ensures
 
 pub returns-in-Rig : goal.returns-in-Rig
 returns-in-Rig c =

@@ -6,11 +6,11 @@ use Rattle.schedule.proofs.fields.read_each.Given as given
 use Rattle.schedule.proofs.fields.read_each.Goals as goal
 use Rattle.schedule.proofs.fields.read_each.Goals.{then-c-lt-MAX_CONSOLES, else-c-lt-MAX_CONSOLES}
 
-pub returns-in-default : goal.returns-in-default
-returns-in-default g c =
+pub returns-in_default : goal.returns-in_default
+returns-in_default g c =
     let says = proposal_at g.V.FieldValue.says c.args.fallen (later 9 c.args.fields.now) in
     let field = c.next_field.ensures.first ∙ next_is g.V.FieldValue.nothing says c.args.fields.now c.loop-c.rest.now c.loop-c.values c.loop-c.c c.loop-c.invariant in
-    let is = sym (λ j. g.V.FieldValue.says (c.has.ensures j) (field j)) ∙ sym c.read.ensures ∙ c.in-default.is in
+    let is = sym (λ j. g.V.FieldValue.says (c.has.ensures j) (field j)) ∙ sym c.read.ensures ∙ c.in_default.is in
     answers_bad g.V.FieldValue.nothing says c.args.fields.now c.loop-c.rest.now c.loop-c.values c.loop-c.c c.args.n c.loop-c.invariant (omega arith) is
 
 pub loop-c-preserved : goal.loop-c-preserved

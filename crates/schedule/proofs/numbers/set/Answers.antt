@@ -7,5 +7,5 @@ returns-in_err-number c =
     let bad = set_bad c.args.field.now (omega arith) c.in_err-number.ensures in
     rw c.from_residual.ensures (search rules)
 
-pub overflow-cast-result : goal.overflow-cast-result
-overflow-cast-result c = omega (arith, set_fits c.args.field.now c.in_ok-number.number (omega arith) c.in_ok-number.ensures)
+pub overflow_cast-result : goal.overflow_cast-result
+overflow_cast-result c = omega (arith, set_fits c.args.field.now c.in_ok-number.number (omega arith) c.in_ok-number.ensures)

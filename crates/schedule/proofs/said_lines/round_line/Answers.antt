@@ -5,9 +5,9 @@ use Rattle.schedule.specs.Said.{field}
 use Rattle.schedule.proofs.Rows.{round_answer, round_is, row_behind, walk}
 use Rattle.schedule.proofs.said_lines.round_line.Goals as goal
 
-pub returns-in-default : goal.returns-in-default
-returns-in-default c =
-    let said = sym c.in-default.is ∙ c.set.ensures ∙ ap set_said c.next_field.ensures.first in
+pub returns-in_default : goal.returns-in_default
+returns-in_default c =
+    let said = sym c.in_default.is ∙ c.set.ensures ∙ ap set_said c.next_field.ensures.first in
     sym (round_is c.args.n c.args.line (later 9 c.args.fields.now) (omega arith)
     ∙ sym (ap (λ o. round_answer c.args.line o (walk c.args.n (λ i. set_said (field (later 9 c.args.fields.now) (suc i))))) said))
 

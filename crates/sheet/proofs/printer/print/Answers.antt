@@ -18,16 +18,16 @@ returns-in-Some c =
           ∙ p.leaves;
     }
 
-pub returns-in-default : goal.returns-in-default
-returns-in-default c =
+pub returns-in_default : goal.returns-in_default
+returns-in_default c =
     let l = text_of c.args.line.now in
     let n : length c.bytes-bytes.result.now ≡ length l = ap length c.bytes-bytes.ensures in
     let p = printed_nothing c.args.out.now l c.args.len (omega (arith, c.in-Some.ensures.1)) in
     record { answers = p.answers; leaves = p.leaves }
 
-pub returns-in-default·2 : goal.returns-in-default·2
-returns-in-default·2 c =
+pub returns-in_default·2 : goal.returns-in_default·2
+returns-in_default·2 c =
     let l = text_of c.args.line.now in
     let n : length c.bytes-bytes.result.now ≡ length l = ap length c.bytes-bytes.ensures in
-    let p = printed_nothing c.args.out.now l c.args.len (omega (arith, c.in-default.ensures)) in
+    let p = printed_nothing c.args.out.now l c.args.len (omega (arith, c.in_default.ensures)) in
     record { answers = p.answers; leaves = p.leaves }

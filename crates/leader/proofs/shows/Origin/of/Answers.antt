@@ -18,8 +18,8 @@ returns-in-0 c =
     let f = found (λ p. lowest p h.n) h.n h.row s stamp.result stamp.ensures in
     search rules
 
-pub returns-in-default : goal.returns-in-default
-returns-in-default c =
+pub returns-in_default : goal.returns-in_default
+returns-in_default c =
     let h = c.args.heard in
     let stamp = c.largest_of-stamp in
     let l = found (λ p. lowest (λ d. p d && majority h.n (common h.row h.namers.now d)) h.n) h.n h.row (who h.consoles.now) stamp.result stamp.ensures in
