@@ -70,13 +70,13 @@ module _ {bound : ℕ} {s : Setting} {cs : List Answered} {panel : Panel} {book 
       no_ticket : (b : Bool) (x : Option Refusal) → b ≡ false → refused (not b) WrongTicket x ≡ Some WrongTicket
       no_ticket b x e = ap (λ (y : Bool). refused (not y) WrongTicket x) e
 
-      go : ((λ x. x.now).open_now ≡ true) ⊎ ((λ x. x.now).open_now ≡ false) → turn_refusal panel m rig number r.falls r.rows ≡ refusal s (λ x. x.now) (round rig number r)
+      go : (now.open_now ≡ true) ⊎ (now.open_now ≡ false) → turn_refusal panel m rig number r.falls r.rows ≡ refusal s now (round rig number r)
       go (inl e) =
           let o = open_show led st e in
           round_same o.led o.stands rig number r.falls r.rows ∙ ap (λ (x : Show). refusal s x (round rig number r)) (sym o.is)
       go (inr e) =
-          let f : shows s (λ x. x.now) rig number ≡ false = ap (λ (b : Bool). b && (eqb rig s.number && eqb number (length (λ x. x.now).presses))) e in
-          no_ticket (fits panel rig number) _ (same_fits led st rig number ∙ f) ∙ sym (no_ticket (shows s (λ x. x.now) rig number) _ f)
+          let f : shows s now rig number ≡ false = ap (λ (b : Bool). b && (eqb rig s.number && eqb number (length now.presses))) e in
+          no_ticket (fits panel rig number) _ (same_fits led st rig number ∙ f) ∙ sym (no_ticket (shows s now rig number) _ f)
 
   -- an accepted call leads on
   one_more : (call : Asked) (show now : Show) (panel' : Panel) (book' : Book) (m' : Meaning)

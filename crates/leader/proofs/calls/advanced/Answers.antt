@@ -4,8 +4,8 @@ use Rattle.leader.specs.Invariant.{ghosts}
 use Rattle.leader.specs.Keeps.{keeps, as_begun, as_meant, round_keeps}
 use Rattle.leader.proofs.calls.advanced.Goals as goal
 
-pub invariant-of-result : goal.invariant-of-result
-invariant-of-result c =
+pub invariant_of-result : goal.invariant_of-result
+invariant_of-result c =
     let b = c.args.b.now in
     let p = b.progress in
     let p' = c.in_ok-progress.progress in

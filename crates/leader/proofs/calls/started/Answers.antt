@@ -5,8 +5,8 @@ use Rattle.leader.specs.Invariant.{ghosts}
 use Rattle.leader.specs.Keeps.{started_keeps, no_verdicts}
 use Rattle.leader.proofs.calls.started.Goals as goal
 
-pub invariant-of-result : goal.invariant-of-result
-invariant-of-result c =
+pub invariant_of-result : goal.invariant_of-result
+invariant_of-result c =
     let b = c.args.b.now in
     let p = c.in_ok-progress.progress in
     let e = c.in_ok-progress.ensures in

@@ -5,14 +5,14 @@ use Rattle.rounds.proofs.Fill.{blank}
 use Rattle.third.specs.Keeps.{started_keeps}
 use Rattle.third.proofs.calls.started.Goals as goal
 
-pub invariant-of-result : goal.invariant-of-result
-invariant-of-result c =
+pub invariant_of-result : goal.invariant_of-result
+invariant_of-result c =
     let b = c.args.b.now in
     let p = c.in_ok-progress.progress in
     let e = c.in_ok-progress.ensures in
     let s = e.1 b.verdicts (replicate max_consoles 0) (λ i. blank max_consoles i 0) in
     let k = started_keeps b.progress.t c.args.running c.args.entries.now _ _ s b.served p.within (start_ok _ _ _ _ e.0) in
-    (k.served, (k.entered, (k.listed, (k.estimating, (k.backed, (k.even, (k.settled, tt)))))))
+    record { served = k.served; entered = k.entered; listed = k.listed; estimating = k.estimating; backed = k.backed; even = k.even; settled = k.settled }
 
 pub returns : goal.returns
 returns c =

@@ -3,8 +3,8 @@ use borrow.Rule.Slice.PartMut.{put_mid}
 use Rattle.sheet.proofs.Puts.{put_part, length-put, take_put}
 use Rattle.sheet.proofs.text.Text.and.Goals as goal
 
-pub invariant-of-result : goal.invariant-of-result
-invariant-of-result c =
+pub invariant_of-result : goal.invariant_of-result
+invariant_of-result c =
     let l : c.args.self.len + length c.args.bytes.now ≤ length c.args.self.bytes = omega (arith, c.requires, c.args.self.long) in (
       c.requires,
       (

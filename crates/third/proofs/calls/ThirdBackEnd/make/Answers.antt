@@ -7,14 +7,14 @@ use Rattle.rounds.proofs.Fill.{blank}
 use Rattle.third.specs.Keeps.{made_keeps}
 use Rattle.third.proofs.calls.ThirdBackEnd.make.Goals as goal
 
-pub invariant-of-result : goal.invariant-of-result
-invariant-of-result c =
+pub invariant_of-result : goal.invariant_of-result
+invariant_of-result c =
     let n = c.args.n in
     let t = c.args.t in
     let e = c.in_ok-progress.ensures in
     let served : 3 * t < n = ltb-true (3 * t) n (sym c.is_served.ensures ∙ (make_ok c.is_served.result n t e.0).0) in
     let k = made_keeps n t _ (e.1 (replicate max_consoles 0) (λ i. blank max_consoles i 0)) served c.in_ok-progress.progress.within in
-    (k.served, (k.entered, (k.listed, (k.estimating, (k.backed, (k.even, (k.settled, tt)))))))
+    record { served = k.served; entered = k.entered; listed = k.listed; estimating = k.estimating; backed = k.backed; even = k.even; settled = k.settled }
 
 pub returns : goal.returns
 returns c =
