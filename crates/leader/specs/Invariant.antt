@@ -1,4 +1,4 @@
--- What every state of Leader keeps, as one record, and as the product that a Leader's ghost fields are asked for in.
+-- What every state of Leader keeps, as one record, and as the record that a Leader's ghost fields are asked for in.
 use Rattle.std.specs.Prelude.{ℕ, ◌*◌, ◌<◌, List}
 use Rattle.leader.specs.Rule.{State}
 use Rattle.leader.specs.State.{Stamped, Single, Fresh, Backed, Entered, Estimating, Even, Naming, Present, Committed, Settled}
@@ -18,7 +18,31 @@ pub record Keeps (n t running rounds steady : ℕ) (entries : List ℕ) (s : Sta
   pub settled : Settled steady running s
 
 pub ghosts : {n t running rounds steady : ℕ} {entries : List ℕ} {s : State} → Keeps n t running rounds steady entries s
-    → (2 * t < n) × (Stamped rounds s × (Single s × (Fresh rounds running s × (Backed n s × (Entered n entries s × (Estimating running s
-    × (Even steady running s × (Naming steady running s × (Present steady running s × (Committed steady running s × (Settled steady running s × Unit {0})))))))))))
-ghosts k =
-    (k.served, (k.stamped, (k.single, (k.fresh, (k.backed, (k.entered, (k.estimating, (k.even, (k.naming, (k.present, (k.committed, (k.settled, tt))))))))))))
+    → record {
+      served : 2 * t < n;
+      stamped : Stamped rounds s;
+      single : Single s;
+      fresh : Fresh rounds running s;
+      backed : Backed n s;
+      entered : Entered n entries s;
+      estimating : Estimating running s;
+      even : Even steady running s;
+      naming : Naming steady running s;
+      present : Present steady running s;
+      committed : Committed steady running s;
+      settled : Settled steady running s;
+    }
+ghosts k = record {
+  served = k.served;
+  stamped = k.stamped;
+  single = k.single;
+  fresh = k.fresh;
+  backed = k.backed;
+  entered = k.entered;
+  estimating = k.estimating;
+  even = k.even;
+  naming = k.naming;
+  present = k.present;
+  committed = k.committed;
+  settled = k.settled;
+}
