@@ -17,13 +17,13 @@ short Back = omega arith
 pub long-requires : goal.long-requires
 long-requires c =
     let word : length c.as_bytes.result.now ≤ 5 = omega (arith, ap length (c.as_bytes.ensures.value ∙ c.word.ensures), short c.args.console.now.cause) in
-    let digits = length-decimal-le 20 c.wait.result (omega arith) (omega (arith, c.wait.type-inv)) c.wait.type-inv in
+    let digits = length-decimal-le 20 c.wait.result (omega arith) (omega (arith, c.wait.type_inv)) c.wait.type_inv in
     omega (arith, c.begin.ensures.used, c.small.ensures.used, c.small-2.ensures.used, c.set.ensures.used, c.small-3.ensures.used, c.number.ensures.used, c.field.ensures.used)
 
 pub end-requires : goal.end-requires
 end-requires c =
     let word : length c.as_bytes.result.now ≤ 5 = omega (arith, ap length (c.as_bytes.ensures.value ∙ c.word.ensures), short c.args.console.now.cause) in
-    let digits = length-decimal-le 20 c.wait.result (omega arith) (omega (arith, c.wait.type-inv)) c.wait.type-inv in
+    let digits = length-decimal-le 20 c.wait.result (omega arith) (omega (arith, c.wait.type_inv)) c.wait.type_inv in
     omega (arith, c.begin.ensures.used, c.small.ensures.used, c.small-2.ensures.used, c.set.ensures.used, c.small-3.ensures.used, c.number.ensures.used, c.field.ensures.used, c.long.ensures.used)
 
 pub returns : goal.returns

@@ -25,8 +25,8 @@ returns-in_default c =
     let p = printed_nothing c.args.out.now l c.args.len (omega (arith, c.in-Some.ensures.1)) in
     record { answers = p.answers; leaves = p.leaves }
 
-pub returns-in_default·2 : goal.returns-in_default·2
-returns-in_default·2 c =
+pub returns-in_default-2 : goal.returns-in_default-2
+returns-in_default-2 c =
     let l = text_of c.args.line.now in
     let n : length c.bytes-bytes.result.now ≡ length l = ap length c.bytes-bytes.ensures in
     let p = printed_nothing c.args.out.now l c.args.len (omega (arith, c.in_default.ensures)) in

@@ -6,5 +6,5 @@ use Rattle.sheet.proofs.printer.print_page.Given as goal
 -- what is left to print comes to what there was to print
 abbrev pub invariant-loop-i : goal.invariant-loop-i
 invariant-loop-i l =
-    outcome l.out l.used (rows_from l.round-length l.page.consoles l.n l.i)
-    ≡ outcome l.initial.out l.initial.used (rows_from l.round-length l.page.consoles l.n 0)
+    outcome l.out l.used (rows_from l.round_length l.page.consoles l.n l.i)
+    ≡ outcome l.initial.out l.initial.used (rows_from l.round_length l.page.consoles l.n 0)

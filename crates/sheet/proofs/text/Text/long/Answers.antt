@@ -7,8 +7,8 @@ use Rattle.sheet.proofs.text.Text.long.Goals as goal
 pub loop-rest-init : goal.loop-rest-init
 loop-rest-init c = spelt_none _ c.args.number refl (omega arith)
 
-pub overflow_sub-start-in_loop-rest : goal.overflow_sub-start-in_loop-rest
-overflow_sub-start-in_loop-rest c = spelt_before c.loop-rest-test.true c.loop-rest.invariant
+pub overflow_sub-start-in-loop-rest : goal.overflow_sub-start-in-loop-rest
+overflow_sub-start-in-loop-rest c = spelt_before c.loop-rest-test.true c.loop-rest.invariant
 
 pub loop-rest-preserved : goal.loop-rest-preserved
 loop-rest-preserved c = spelt_more c.loop-rest-test.true c.loop-rest.invariant
