@@ -14,9 +14,10 @@ fn refusal(r: Result<Progress, Refusal>) -> Option<Refusal> {
 fn entries_of_those_who_run(rt: HostRuntime) -> Result<(), Fail> {
     let made = Progress::make(4, 1, true)?;
     let started = made.started(11, &[2, 1, 9, 4])?;
-    assert_eq!(rt; started.entries[0], 2);
-    assert_eq!(rt; started.entries[2], 0);
-    assert_eq!(rt; started.entries[3], 4);
+    let entries = started.entries;
+    assert_eq!(rt; entries[0], 2);
+    assert_eq!(rt; entries[2], 0);
+    assert_eq!(rt; entries[3], 4);
     assert_eq!(rt; started.running, 11);
     Ok(())
 }
@@ -33,7 +34,8 @@ fn steady_rounds(rt: HostRuntime) -> Result<(), Fail> {
     assert_eq!(rt; fallen.steady, 0);
     assert_eq!(rt; fallen.rounds, 3);
     assert_eq!(rt; fallen.running, 7);
-    assert_eq!(rt; fallen.entries[3], 4);
+    let entries = fallen.entries;
+    assert_eq!(rt; entries[3], 4);
     Ok(())
 }
 
