@@ -6,7 +6,7 @@ use Rattle.console_sets.proofs.Counting.{count_none, count_more, count_empty}
 use Rattle.console_sets.proofs.Digits.{member_below}
 use Rattle.orders.specs.declared.Place.{Place}
 use Rattle.orders.specs.Places.{Lawful as Ordered, is_before}
-use Rattle.orders.specs.Ranks.{takes_part, rank}
+use Rattle.orders.specs.Ranks.{takes_part}
 use Rattle.orders.proofs.Ranked.{rank_apart, not_before}
 use Rattle.rounds.specs.Items.{at}
 use Rattle.rounds.specs.Rounds.{steady_round}

@@ -9,7 +9,6 @@ use Rattle.rounds.specs.declared.Refusal.{Refusal}
 use Rattle.rounds.specs.declared.Refusal.TheVariants.{PressOpen, WrongTicket}
 use Rattle.back_end.specs.Meaning.{Meaning}
 use Rattle.back_end.specs.Laws.{Agrees, Settles}
-use Rattle.front.specs.Runs.{Round}
 use Rattle.rig.specs.declared.panel.Panel.{Panel}
 use Rattle.rig.specs.declared.panel.Book.{Book}
 use Rattle.rig.specs.Presses.{Press}

@@ -1,4 +1,4 @@
--- The bound that contracts cite, since a clause cannot name the code's MAX_PAGES.
+-- The bound on pages that contracts cite: it equals the code's MAX_PAGES, or nothing is proved.
 use Rattle.std.specs.Prelude.{ℕ}
 
 -- the most pages of a book

@@ -14,7 +14,6 @@ use Rattle.back_end.specs.Laws.{Agrees, Settles}
 use Rattle.front.specs.Consoles.{State, state_of, opened}
 use Rattle.front.specs.Runs.{Round, entries}
 use Rattle.rig.specs.declared.page.Page.{Page}
-use Rattle.rig.specs.declared.page.End.{End}
 use Rattle.rig.specs.declared.page.End.TheVariants.{Settled}
 use Rattle.rig.specs.declared.panel.Panel.{Panel}
 use Rattle.rig.specs.declared.panel.Book.{Book}

@@ -1,5 +1,5 @@
 -- What each call of a rig answers and leaves, from the rig before it, whatever that is: its panel, its book and what its back end means.
-use Rattle.std.specs.Prelude.{◌≡◌, ℕ, ◌+◌, ◌<◌, Bool, true, false, cond, not, ◌&&◌, List, map, set, None, Option, ◌==◌, nat_le, nat_lt, slice_set}
+use Rattle.std.specs.Prelude.{◌≡◌, ℕ, ◌+◌, ◌<◌, Bool, true, false, cond, not, ◌&&◌, List, map, None, Option, ◌==◌, nat_le, nat_lt, slice_set}
 use Rattle.std.specs.List.{range_with_len}
 use Rattle.console_sets.specs.Sets.{all}
 use Rattle.orders.specs.declared.Place.{Place}

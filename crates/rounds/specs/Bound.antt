@@ -1,4 +1,4 @@
--- The bounds that contracts cite, since a clause cannot name the code's MIN_CONSOLES and MAX_ROUNDS.
+-- The bounds that contracts cite: they equal the code's MIN_CONSOLES and MAX_ROUNDS, or nothing is proved.
 use Rattle.std.specs.Prelude.{ℕ}
 
 -- the fewest consoles of a group

@@ -1,5 +1,5 @@
 -- Digits by place: the steps of reading them from the left, and how large a number they write.
-use Rattle.std.proofs.Common.{◌≡◌, ℕ, suc, ◌+◌, ◌-◌, ◌*◌, ◌^◌, ◌<◌, ◌≤◌, Bool, true, false, cond, ◌&&◌, ltb, ◌⊎◌, List, [], ◌∷◌, length, get_or, drop, Some, None, sym, refl, ap, ◌∙◌, inl, inr, mul-le-mul_right, mul_assoc, add-mul, mul-le-mul_left, one-mul, zero-mul, mul-one, arith}
+use Rattle.std.proofs.Common.{◌≡◌, ℕ, suc, ◌+◌, ◌*◌, ◌^◌, ◌<◌, ◌≤◌, Bool, true, false, cond, ◌&&◌, ltb, ◌⊎◌, List, [], ◌∷◌, length, get_or, drop, Some, None, sym, refl, ap, ◌∙◌, inl, inr, mul-le-mul_right, mul_assoc, add-mul, mul-le-mul_left, one-mul, zero-mul, mul-one, arith}
 use native.Mathlib.Nat.{pow-succ', one-le-pow, pow-zero}
 use Rattle.std.proofs.lemmas.List.{drop_more, drop_all, length-map}
 use Rattle.std.proofs.lemmas.Bool.{and_parts, and_left, and_right, and_from, ltb-true, ltb-false, le-ltb, lt-ltb, cases_Bool, cond-true}

@@ -1,5 +1,5 @@
 -- A line taken apart by its first word, and what the definition of its kind says of it.
-use Rattle.std.proofs.Common.{◌≡◌, ℕ, true, false, ◌⊎◌, List, ◌++◌, drop, None, codes, Option, sym, refl, ap, ◌∙◌, inl, inr}
+use Rattle.std.proofs.Common.{◌≡◌, ℕ, true, false, ◌⊎◌, List, ◌++◌, drop, None, codes, sym, refl, ap, ◌∙◌, inl, inr}
 use Rattle.std.proofs.lemmas.Bool.{cases_Bool}
 use Rattle.schedule.specs.Parts.{before, onward, later}
 use Rattle.schedule.specs.Values.{same}

@@ -1,5 +1,5 @@
 -- The console lines of a page: those from index i on.
-use Rattle.std.proofs.Common.{◌≡◌, ℕ, suc, ◌+◌, ◌-◌, ◌<◌, ◌≤◌, List, [], ◌∷◌, map, sym, refl, ap, ◌∙◌, arith}
+use Rattle.std.proofs.Common.{◌≡◌, ℕ, suc, ◌+◌, ◌-◌, ◌<◌, ◌≤◌, List, [], ◌∷◌, map, ap, arith}
 use Rattle.std.specs.List.{range_with_len}
 use Rattle.front.specs.declared.consoles.Console.{Console}
 use Rattle.front.specs.Consoles.{state_of}

@@ -1,4 +1,4 @@
--- The bound that contracts cite, since a clause cannot name the code's MAX_TEXT.
+-- The bound on a line that contracts cite: it equals the code's MAX_TEXT, or nothing is proved.
 use Rattle.std.specs.Prelude.{ℕ}
 
 -- the most bytes of a line that is made

@@ -2,7 +2,6 @@ use Rattle.std.proofs.Common.{sym, ◌∙◌, inl, inr, arith}
 use Rattle.schedule.specs.Parts.{later}
 use Rattle.schedule.specs.Said.{proposal_at}
 use Rattle.schedule.proofs.Each.{next_is, sofar_more, answers_bad, answers_all}
-use Rattle.schedule.proofs.fields.read_each.Given as given
 use Rattle.schedule.proofs.fields.read_each.Goals as goal
 use Rattle.schedule.proofs.fields.read_each.Goals.{then-c-lt-MAX_CONSOLES, else-c-lt-MAX_CONSOLES}
 

@@ -1,4 +1,4 @@
-use Rattle.std.proofs.Common.{suc, Option, sym, ap, ◌∙◌, arith}
+use Rattle.std.proofs.Common.{suc, sym, ap, ◌∙◌, arith}
 use Rattle.schedule.specs.Parts.{later}
 use Rattle.schedule.specs.Numbers.{set_said}
 use Rattle.schedule.specs.Said.{field}

@@ -1,4 +1,4 @@
-use Rattle.std.proofs.Common.{◌≡◌, ℕ, suc, ◌+◌, ◌≤◌, List, [], ◌∷◌, length, codes, decimal, refl, ap, ◌∙◌, add-one, arith}
+use Rattle.std.proofs.Common.{suc, ◌≤◌, [], ◌∷◌, length, codes, decimal, refl, ap, ◌∙◌, add-one, arith}
 use Rattle.std.proofs.lemmas.Fmt.{length-decimal-le}
 use Rattle.front.specs.declared.consoles.Cause.{Cause}
 use Rattle.front.specs.declared.consoles.Cause.TheVariants.{None, Front, Relay, Back}

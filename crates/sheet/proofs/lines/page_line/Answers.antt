@@ -1,4 +1,4 @@
-use Rattle.std.proofs.Common.{◌≡◌, ℕ, List, [], ◌∷◌, codes, decimal, refl, ap, ◌∙◌}
+use Rattle.std.proofs.Common.{[], ◌∷◌, codes, decimal, refl, ap, ◌∙◌}
 use Rattle.front.specs.Consoles.{state_of}
 use Rattle.sheet.specs.Lines.{end_word, author_of}
 use Rattle.sheet.proofs.Sewing.{begun, one_more, ended}

@@ -1,4 +1,4 @@
-use Rattle.std.proofs.Common.{◌≡◌, ℕ, List, [], ◌∷◌, codes, decimal, refl, ap, ◌∙◌}
+use Rattle.std.proofs.Common.{[], ◌∷◌, codes, decimal, refl, ◌∙◌}
 use Rattle.sheet.specs.Lines.{layer_word}
 use Rattle.sheet.proofs.Sewing.{begun, one_more, ended}
 use Rattle.sheet.proofs.lines.refused_line.Goals as goal

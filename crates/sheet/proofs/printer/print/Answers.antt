@@ -1,7 +1,7 @@
-use Rattle.std.proofs.Common.{◌≡◌, ℕ, ◌+◌, ◌-◌, List, [], ◌∷◌, length, Ok, Err, sym, refl, ap, ◌∙◌, subst, arith}
+use Rattle.std.proofs.Common.{◌≡◌, ◌+◌, ◌-◌, length, Ok, ap, ◌∙◌, arith}
 use Rattle.sheet.specs.Text.{text_of}
 use Rattle.sheet.proofs.Puts.{put_part}
-use Rattle.sheet.proofs.Printing.{Printed, printed_line, printed_nothing}
+use Rattle.sheet.proofs.Printing.{printed_line, printed_nothing}
 use Rattle.sheet.proofs.printer.print.Goals as goal
 
 pub returns-in-Some : goal.returns-in-Some

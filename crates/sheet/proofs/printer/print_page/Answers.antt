@@ -1,14 +1,12 @@
-use Rattle.std.proofs.Common.{◌≡◌, ℕ, ◌<◌, ◌≤◌, min, List, [], ◌∷◌, length, get_or, take, Ok, Err, Result, sym, refl, ap, ◌∙◌, subst, arith}
+use Rattle.std.proofs.Common.{◌≡◌, ℕ, ◌<◌, ◌≤◌, List, Err, Result, ap, ◌∙◌, arith}
 use Rattle.std.proofs.lemmas.List.{get_or-take, length-take}
 use Rattle.std.proofs.lemmas.Result.{err_from_is_err_and}
-use Rattle.front.specs.declared.consoles.Console.{Console}
 use Rattle.front.specs.Consoles.{fresh}
 use Rattle.rig.specs.declared.page.Page.{Page}
 use Rattle.sheet.specs.declared.printer.NoRoom.{NoRoom}
 use Rattle.sheet.specs.Lines.{console_line, lines_of}
 use Rattle.sheet.proofs.Printing.{outcome, Printed, printed_as}
-use Rattle.sheet.proofs.Rows.{row, rows_from}
-use Rattle.sheet.proofs.Paging.{head, same_line, head_done, head_stops, row_done, row_stops, rows_done}
+use Rattle.sheet.proofs.Paging.{same_line, head_done, head_stops, row_done, row_stops, rows_done}
 use Rattle.sheet.proofs.printer.print_page.Goals as goal
 
 -- the answer by `?` is the refusal that it met

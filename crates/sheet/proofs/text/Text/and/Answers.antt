@@ -1,5 +1,4 @@
-use Rattle.std.proofs.Common.{◌≡◌, ℕ, ◌+◌, ◌-◌, ◌≤◌, length, take, refl, ap, ◌∙◌, arith}
-use borrow.Rule.Slice.PartMut.{put_mid}
+use Rattle.std.proofs.Common.{◌+◌, ◌≤◌, length, take, refl, ap, ◌∙◌, arith}
 use Rattle.sheet.proofs.Puts.{put_part, length-put, take_put}
 use Rattle.sheet.proofs.text.Text.and.Goals as goal
 

@@ -1,7 +1,6 @@
-use Rattle.std.proofs.Common.{◌≡◌, ℕ, ◌+◌, ◌-◌, List, ◌∷◌, ◌++◌, length, take, drop, set, decimal, refl, ap, ◌∙◌, arith}
-use Rattle.std.proofs.lemmas.List.{take_all, length-drop, length-set}
+use Rattle.std.proofs.Common.{ℕ, List, ◌∷◌, ◌++◌, length, refl, ap, ◌∙◌, arith}
 use Rattle.sheet.specs.Text.{text_of}
-use Rattle.sheet.proofs.Decimals.{Spelt, spelt_none, spelt_before, spelt_more, spelt_part}
+use Rattle.sheet.proofs.Decimals.{spelt_none, spelt_before, spelt_more, spelt_part}
 use Rattle.sheet.proofs.text.Text.long.Goals as goal
 
 pub loop-rest-init : goal.loop-rest-init
