@@ -79,9 +79,6 @@ pub count-not : (p : ℕ → Bool) (n : ℕ) → count p n + count (λ c. not (p
 count-not p zero = omega (arith, count_none p, count_none (λ c. not (p c)))
 count-not p (suc n) = omega (arith, count_more p n, count_more (λ c. not (p c)) n, one_not (p n), count-not p n)
 
-pub count_le : (p : ℕ → Bool) (n : ℕ) → count p n ≤ n
-count_le p n = omega (arith, count-not p n)
-
 -- a set counts 0 exactly when it has no member
 pub count_empty : (p : ℕ → Bool) (n : ℕ) → ((c : ℕ) → c < n → p c ≡ false) → count p n ≡ 0
 count_empty p n h =

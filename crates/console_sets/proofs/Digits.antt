@@ -2,7 +2,7 @@
 use Rattle.std.proofs.Common.{◌≡◌, ℕ, zero, suc, ◌-◌, ◌/◌, ◌%◌, ◌^◌, ◌<◌, ◌≤◌, Bool, true, false, not, ◌&&◌, ◌||◌, eqb, ltb, sym, refl, ap, ◌∙◌, ap₂, inl, inr, lt_of_lt_of_le, div-one, one-add, arith, pow_pos, pow_mono, shr-shr}
 use native.Mathlib.Nat.{zero-div, div_self, div-eq_of_lt}
 use lib.Arith.{lt-one}
-use lib.Bits.{bit_and, bit_or, bit_xor, and_shr, or_shr, xor_shr, and_mod, or_mod, xor_mod, and_le_l, and_le_r, xor_lt, and_zero_r, xor_zero_r}
+use lib.Bits.{bit_and, bit_or, bit_xor, and_shr, or_shr, xor_shr, and_mod, or_mod, xor_mod, and_le_l, and_le_r, xor_lt}
 use lib.Count.{ones, ones_step}
 use Rattle.std.proofs.lemmas.Bool.{ne_eqb, eq-eqb, cases_eq, cases_lt, lt-ltb, le-ltb, eqb-true, both_ways}
 use Rattle.console_sets.specs.Sets.{one, count, member, all, inside, union, without, joined}
@@ -180,6 +180,3 @@ inside-all n a h = inside_lt n a (all n) h (omega (arith, pow_pos n))
 
 pub without_lt : (n a b : ℕ) → a < 2 ^ n → without a b < 2 ^ n
 without_lt n a b l = xor_lt n a (bit_and a b) l (omega (arith, and_le_l a b))
-
-pub without_none : (a : ℕ) → without a 0 ≡ a
-without_none a = ap (bit_xor a) (and_zero_r a) ∙ xor_zero_r a

@@ -1,7 +1,7 @@
 -- The laws of `lowest`: what its answer says of a test, at any number of consoles.
-use Rattle.std.proofs.Common.{◌≡◌, ℕ, zero, suc, ◌<◌, ◌≤◌, Bool, true, false, cond, eqb, ◌⊎◌, sym, refl, ap, ◌∙◌, inl, inr, arith}
+use Rattle.std.proofs.Common.{◌≡◌, ℕ, zero, suc, ◌<◌, Bool, true, false, cond, eqb, Some, ◌⊎◌, sym, refl, ap, ◌∙◌, inl, inr, arith}
 use Rattle.std.proofs.lemmas.Bool.{cases_Bool, cases_eq, cases_order, eq-eqb, ne_eqb, cond-true, cond-false, both_ways}
-use Rattle.console_sets.specs.Sets.{lowest}
+use Rattle.console_sets.specs.Sets.{console_of, lowest}
 
 -- 0, or one more than a number
 zero_or : (m : ℕ) → (m ≡ 0) ⊎ ((k : ℕ) × (m ≡ suc k))
@@ -75,13 +75,6 @@ module _ (p : ℕ → Bool) where
             ]
       ]
 
-  pub lowest_le : (n : ℕ) → lowest p n ≤ n
-  lowest_le n =
-      elim (zero_or (lowest p n)) [
-        | inl z ↦ omega arith
-        | inr k ↦ omega (arith, (lowest_is n k.0 k.1).0, k.1)
-      ]
-
   -- some index below n passes, or none does
   pub find : (n : ℕ) → ((c : ℕ) × (c < n) × (p c ≡ true)) ⊎ ((c : ℕ) → c < n → p c ≡ false)
   find n =
@@ -104,3 +97,8 @@ lowest_same p q n h =
           let m = lowest_is q n k.0 k.1 in
           is_lowest p n k.0 m.0 (h k.0 m.0 ∙ m.1) (λ d l. h d (omega (arith, m.0)) ∙ m.2 d l) ∙ sym k.1
     ]
+
+-- ---- answers as Options
+
+pub console_some : (c : ℕ) → console_of (suc c) ≡ Some (suc c)
+console_some c = cond-false (eqb (suc c) 0) _ _ (ne_eqb (suc c) 0 (λ z. omega arith))

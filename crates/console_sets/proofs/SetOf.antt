@@ -1,10 +1,10 @@
 -- The laws of `set_of`: its members are those of its test.
 use Rattle.std.proofs.Common.{◌≡◌, ℕ, zero, suc, ◌+◌, ◌*◌, ◌^◌, ◌<◌, Bool, true, false, cond, ◌&&◌, ◌||◌, eqb, ltb, sym, refl, ap, ◌∙◌, inl, inr, one-mul, add-one, arith}
 use lib.Bits.{bit_or, or_shifted_r}
-use Rattle.std.proofs.lemmas.Bool.{cases_Bool, lt-ltb}
+use Rattle.std.proofs.lemmas.Bool.{cases_Bool}
 use Rattle.std.proofs.lemmas.Bool.Decides.{nat_tests}
 use Rattle.console_sets.specs.Sets.{one, member, joined, set_of}
-use Rattle.console_sets.proofs.Digits.{member_none, member-joined, member_ext}
+use Rattle.console_sets.proofs.Digits.{member_none, member-joined}
 
 module _ (p : ℕ → Bool) where
   pub set_of_none : set_of p 0 ≡ 0
@@ -46,15 +46,3 @@ module _ (p : ℕ → Bool) where
             ∙ grind (arith, nat_tests)
         | inr e ↦ ap (λ (s : ℕ). member s c) (set_of_no n e) ∙ member-set_of n c ∙ grind (arith, nat_tests)
       ]
-
--- two tests that agree below n
-pub set_of_same : (p q : ℕ → Bool) (n : ℕ) → ((c : ℕ) → c < n → p c ≡ q c) → set_of p n ≡ set_of q n
-set_of_same p q n h =
-    member_ext n (set_of p n) (set_of q n) (set_of_lt p n) (set_of_lt q n)
-    (λ c l. member-set_of p n c ∙ ap (λ (b : Bool). ltb c n && b) (h c l) ∙ sym (member-set_of q n c))
-
--- a set is the set of its members
-pub set_of_members : (n s : ℕ) → s < 2 ^ n → set_of (member s) n ≡ s
-set_of_members n s l =
-    member_ext n (set_of (member s) n) s (set_of_lt (member s) n) l
-    (λ c k. member-set_of (member s) n c ∙ ap (λ (b : Bool). b && member s c) (lt-ltb c n k))

@@ -1,6 +1,6 @@
 -- Sets of consoles, as tests of indices and as numbers, so that contracts can say which consoles and how many. No width is fixed here.
 -- Index c, from 0, stands for the console c + 1, and in a number for the binary digit worth 2 ^ c.
-use Rattle.std.specs.Prelude.{ℕ, zero, suc, ◌+◌, ◌-◌, ◌*◌, ◌/◌, ◌%◌, ◌^◌, Bool, true, false, cond, ◌==◌, bit_and, bit_or, bit_xor}
+use Rattle.std.specs.Prelude.{ℕ, zero, suc, ◌+◌, ◌-◌, ◌*◌, ◌/◌, ◌%◌, ◌^◌, Bool, true, false, cond, Some, None, Option, ◌==◌, bit_and, bit_or, bit_xor}
 
 -- a test as a number: 1 where it passes
 abbrev pub one : Bool → ℕ
@@ -16,6 +16,10 @@ count p (suc n) = one (p n) + count p n
 unfoldable pub lowest : (ℕ → Bool) → ℕ → ℕ
 lowest p zero = 0
 lowest p (suc n) = cond (lowest p n == 0) (cond (p n) (suc n) 0) (lowest p n)
+
+-- a console's number where 0 stands for none, as an Option
+abbrev pub console_of : ℕ → Option ℕ
+console_of number = cond (number == 0) None (Some number)
 
 -- whether the set s has the member c
 abbrev pub member : ℕ → ℕ → Bool

@@ -1,9 +1,9 @@
 // Sets of consoles by their members. A console is given by its index c, which stands for the console c + 1.
 ghost use Rattle.std.specs.Prelude.{◌≡◌, min, if◌then◌else◌, nat_lt};
-ghost use Rattle.console_sets.specs.Sets.{member, inside, all, union, without, joined, count, lowest};
+ghost use Rattle.console_sets.specs.Sets.{console_of, member, inside, all, union, without, joined, count, lowest};
 ghost use Rattle.console_sets.specs.Bound.{max_consoles};
 
-use crate::searches::{Test, lowest_of};
+use crate::searches::lowest_of;
 use crate::{ConsoleSet, MAX_CONSOLES};
 
 // Whether the console of index c is a member. Beyond MAX_CONSOLES none is.
@@ -24,11 +24,11 @@ pub fn all_of(n: u8) -> ConsoleSet
     }
 }
 
-// The number of the lowest member, or 0 if there is none.
-pub fn lowest_member(s: ConsoleSet) -> u8
-    ensures { result ≡ lowest (member s) max_consoles }
+// The number of the lowest member, if there is one.
+pub fn lowest_member(s: ConsoleSet) -> Option<u8>
+    ensures { result ≡ console_of (lowest (member s) max_consoles) }
 {
-    lowest_of(&Members(s), MAX_CONSOLES as u8)
+    lowest_of(MAX_CONSOLES as u8, |c| has(s, c))
 }
 
 // How many members there are.
@@ -67,17 +67,5 @@ pub fn with(s: ConsoleSet, c: u8) -> ConsoleSet
         s | (1 << c)
     } else {
         s
-    }
-}
-
-// A set as the test of its members.
-#[derive(Clone, Copy)]
-struct Members(ConsoleSet);
-
-impl Test for Members {
-    ghost passes = { λ s c. member s.0 c };
-
-    fn test(&self, c: u8) -> bool {
-        has(self.0, c)
     }
 }

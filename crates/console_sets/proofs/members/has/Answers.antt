@@ -1,12 +1,8 @@
-use Rattle.std.proofs.Common.{ℕ, ◌/◌, ◌^◌, ◌≤◌, eqb, sym, ap, ◌∙◌, arith}
-use lib.Bits.{and_mask}
+use Rattle.std.proofs.Common.{◌≤◌, sym, ◌∙◌, arith}
 use Rattle.std.proofs.lemmas.Bool.{le-ltb}
 use Rattle.console_sets.specs.Bound.{max_consoles}
 use Rattle.console_sets.proofs.Digits.{member_above}
 use Rattle.console_sets.proofs.members.has.Goals as goal
-
-pub returns-then-c-lt-MAX_CONSOLES : goal.returns-then-c-lt-MAX_CONSOLES
-returns-then-c-lt-MAX_CONSOLES c = ap (λ (x : ℕ). eqb x 1) (and_mask (c.args.s / 2 ^ c.args.c) 1)
 
 pub returns-else-c-lt-MAX_CONSOLES : goal.returns-else-c-lt-MAX_CONSOLES
 returns-else-c-lt-MAX_CONSOLES c =

@@ -4,12 +4,14 @@ use Rattle.console_sets.proofs.searches.count_of.Goals as goal
 use Rattle.console_sets.proofs.searches.count_of.Goals.{then-test, else-test}
 
 pub loop-c-init : goal.loop-c-init
-loop-c-init g c = (sym (count_none (g.T.Test.passes c.args.t.now)), omega arith)
+loop-c-init g c = (λ p h. sym (count_none p), omega arith)
 
 pub loop-c-preserved : goal.loop-c-preserved
 loop-c-preserved g c =
-    let step = count_step (g.T.Test.passes c.args.t.now) c.loop-c.c in
+    let i = c.loop-c.c in
     elim c.if-test.branch [
-      | then-test w ↦ let h = step true w.if-test.ensures in (omega (arith, w.number-is), omega (arith, w.number-is))
-      | else-test w ↦ let h = step false w.if-test.ensures in (omega (arith, w.number-is), omega (arith, w.number-is))
+      | then-test w ↦
+          (λ p h. omega (arith, w.number-is, c.loop-c.invariant.0 p h, count_step p i true (h i c.loop-c-test.true _ w.if-test.ensures)), omega (arith, w.number-is))
+      | else-test w ↦
+          (λ p h. omega (arith, w.number-is, c.loop-c.invariant.0 p h, count_step p i false (h i c.loop-c-test.true _ w.if-test.ensures)), omega (arith, w.number-is))
     ]

@@ -7,16 +7,15 @@ use Rattle.console_sets.proofs.searches.set_of.Goals as goal
 use Rattle.console_sets.proofs.searches.set_of.Goals.{then-test, else-test}
 
 pub loop-c-init : goal.loop-c-init
-loop-c-init g c = sym (set_of_none (g.T.Test.passes c.args.t.now))
+loop-c-init g c = λ p h. sym (set_of_none p)
 
 pub loop-c-preserved : goal.loop-c-preserved
-loop-c-preserved g c =
+loop-c-preserved g c = λ p h.
     let i = c.loop-c.c in
     let near : i < max_consoles = omega arith in
-    let step = set_of_step (g.T.Test.passes c.args.t.now) i in
     elim c.if-test.branch [
       | then-test w ↦
-          w.set-is ∙ w.with-set.ensures ∙ cond-true _ _ _ (lt-ltb i max_consoles near) ∙ ap (λ (s : ℕ). joined s i) c.loop-c.invariant
-          ∙ sym (step true w.if-test.ensures)
-      | else-test w ↦ w.set-is ∙ c.loop-c.invariant ∙ sym (step false w.if-test.ensures)
+          w.set-is ∙ w.with-set.ensures ∙ cond-true _ _ _ (lt-ltb i max_consoles near) ∙ ap (λ (s : ℕ). joined s i) (c.loop-c.invariant p h)
+          ∙ sym (set_of_step p i true (h i (omega arith) _ w.if-test.ensures))
+      | else-test w ↦ w.set-is ∙ c.loop-c.invariant p h ∙ sym (set_of_step p i false (h i (omega arith) _ w.if-test.ensures))
     ]
