@@ -1,33 +1,33 @@
 -- The laws of `rank`: who takes part is ranked as authors precede each other, whatever the lawful order.
-use Rattle.std.proofs.Common.{◌≡◌, ℕ, zero, suc, ◌<◌, ◌≤◌, Bool, true, false, ◌&&◌, ltb, ◌⊎◌, List, [], ◌∷◌, length, get_or, set, sym, refl, ap, ◌∙◌, ap₂, inl, inr, arith}
+use Rattle.std.proofs.Common.{◌≡◌, ℕ, zero, suc, ◌<◌, ◌≤◌, Bool, true, false, ◌&&◌, ltb, ◌⊎◌, List, [], ◌∷◌, length, set, sym, refl, ap, ◌∙◌, ap₂, inl, inr, arith}
 use Rattle.std.specs.List.{slice_get}
-use Rattle.std.proofs.lemmas.Option.{slice_get_read}
 use Rattle.std.proofs.lemmas.Bool.{cases_Bool, both_ways, and_parts, and_from, and_left, and_right, lt-ltb, le-ltb, ltb-true, cond-true, cond-false}
 use Rattle.console_sets.specs.Sets.{count, member}
 use Rattle.console_sets.proofs.Counting.{count_same, count_empty, count_ends, count_strict}
-use Rattle.orders.specs.declared.Place.{Place}
-use Rattle.orders.specs.declared.Place.TheVariants.{Before, Same, After}
-use Rattle.orders.specs.Places.{flipped, is_before, by_number, then_by, Lawful}
+use Rattle.std.specs.declared.cmp.Ordering.{Ordering}
+use Rattle.std.specs.declared.cmp.Ordering.TheVariants.{Less, Equal, Greater}
+use Rattle.std.specs.Ordering.{is_lt, nat_cmp, ordering_reverse, ordering_then}
+use Rattle.orders.specs.Orders.{Lawful}
 use Rattle.orders.specs.Ranks.{among, between, precedes, takes_part, ahead_of, rank}
 use Rattle.orders.specs.Laws.{Ranking, Unread}
 use Rattle.orders.proofs.Lawful.{lawful_number, number_same, lawful_then}
 
 -- ---- authors: by their proposals, then by their numbers
 
-before_is : (x : Place) → is_before x ≡ true → x ≡ Before
+before_is : (x : Ordering) → is_lt x ≡ true → x ≡ Less
 before_is x e = grind arith
 
-module _ (place : ℕ → ℕ → Place) (o : Lawful place) where
-  lawful_authors : Lawful (λ a b. then_by (place a b) (by_number a b))
-  lawful_authors = lawful_then place by_number o lawful_number
+module _ (place : ℕ → ℕ → Ordering) (o : Lawful place) where
+  lawful_authors : Lawful (λ a b. ordering_then (place a b) (nat_cmp a b))
+  lawful_authors = lawful_then place nat_cmp o lawful_number
 
   pub precedes_onward : (a b c : ℕ) → precedes place a b ≡ true → precedes place b c ≡ true → precedes place a c ≡ true
-  precedes_onward a b c e f = ap is_before (lawful_authors.onward a b c (before_is _ e) (before_is _ f))
+  precedes_onward a b c e f = ap is_lt (lawful_authors.onward a b c (before_is _ e) (before_is _ f))
 
   pub precedes_self : (a : ℕ) → precedes place a a ≡ false
-  precedes_self a = go (then_by (place a a) (by_number a a)) (lawful_authors.mirrored a a)
+  precedes_self a = go (ordering_then (place a a) (nat_cmp a a)) (lawful_authors.mirrored a a)
     where
-      go : (x : Place) → x ≡ flipped x → is_before x ≡ false
+      go : (x : Ordering) → x ≡ ordering_reverse x → is_lt x ≡ false
       go x e = grind arith
 
   pub precedes_back : (a b : ℕ) → precedes place b a ≡ true → precedes place a b ≡ false
@@ -38,30 +38,30 @@ module _ (place : ℕ → ℕ → Place) (o : Lawful place) where
       ]
 
   pub precedes_total : (a b : ℕ) → (precedes place a b ≡ true) ⊎ ((precedes place b a ≡ true) ⊎ (a ≡ b))
-  precedes_total a b = go (place a b) (by_number a b) (number_same a b) (lawful_authors.mirrored b a)
+  precedes_total a b = go (place a b) (nat_cmp a b) (number_same a b) (lawful_authors.mirrored b a)
     where
-      go : (x y : Place) → (y ≡ Same → a ≡ b) → then_by (place b a) (by_number b a) ≡ flipped (then_by x y)
-          → (is_before (then_by x y) ≡ true) ⊎ ((precedes place b a ≡ true) ⊎ (a ≡ b))
-      go Before y s m = inl refl
-      go Same Before s m = inl refl
-      go Same Same s m = inr (inr (s refl))
-      go Same After s m = inr (inl (ap is_before m))
-      go After y s m = inr (inl (ap is_before m))
+      go : (x y : Ordering) → (y ≡ Equal → a ≡ b) → ordering_then (place b a) (nat_cmp b a) ≡ ordering_reverse (ordering_then x y)
+          → (is_lt (ordering_then x y) ≡ true) ⊎ ((precedes place b a ≡ true) ⊎ (a ≡ b))
+      go Less y s m = inl refl
+      go Equal Less s m = inl refl
+      go Equal Equal s m = inr (inr (s refl))
+      go Equal Greater s m = inr (inl (ap is_lt m))
+      go Greater y s m = inr (inl (ap is_lt m))
 
 -- ---- the rank of one author
 
 module _ (n running : ℕ) where
-  rank_in : (place : ℕ → ℕ → Place) (a : ℕ) → takes_part n running a ≡ true
+  rank_in : (place : ℕ → ℕ → Ordering) (a : ℕ) → takes_part n running a ≡ true
       → rank n running place a ≡ count (ahead_of n running place a) n
   unfolding rank
   rank_in place a e = cond-true (takes_part n running a) _ _ e
 
-  pub rank_out : (place : ℕ → ℕ → Place) (a : ℕ) → takes_part n running a ≡ false → rank n running place a ≡ 0
+  pub rank_out : (place : ℕ → ℕ → Ordering) (a : ℕ) → takes_part n running a ≡ false → rank n running place a ≡ 0
   unfolding rank
   rank_out place a e = cond-false (takes_part n running a) _ _ e
 
   -- as the code counts: below any m that leaves out none that runs
-  pub rank-count : (place : ℕ → ℕ → Place) (m a : ℕ) → ((c : ℕ) → m ≤ c → member running c ≡ false)
+  pub rank-count : (place : ℕ → ℕ → Ordering) (m a : ℕ) → ((c : ℕ) → m ≤ c → member running c ≡ false)
       → count (λ b. takes_part n running a && ahead_of n running place a b) m ≡ rank n running place a
   rank-count place m a far =
       let counted : ℕ → Bool = λ b. takes_part n running a && ahead_of n running place a b in
@@ -76,7 +76,7 @@ module _ (n running : ℕ) where
 
   -- ---- equal comparisons give equal ranks
 
-  pub rank_alike : (p q : ℕ → ℕ → Place)
+  pub rank_alike : (p q : ℕ → ℕ → Ordering)
       → ((a b : ℕ) → takes_part n running a ≡ true → takes_part n running b ≡ true → p a b ≡ q a b) → (c : ℕ) → rank n running p c ≡ rank n running q c
   rank_alike p q h c =
       elim (cases_Bool (takes_part n running c)) [
@@ -85,14 +85,14 @@ module _ (n running : ℕ) where
             rank_in p c into ∙ count_same (ahead_of n running p c) (ahead_of n running q c) n
             (λ b l. elim (cases_Bool (takes_part n running b)) [
               | inr off ↦ and_left _ _ off ∙ sym (and_left _ _ off)
-              | inl on ↦ ap (λ (x : Place). takes_part n running b && is_before (then_by x (by_number b c))) (h b c on into)
+              | inl on ↦ ap (λ (x : Ordering). takes_part n running b && is_lt (ordering_then x (nat_cmp b c))) (h b c on into)
             ])
             ∙ sym (rank_in q c into)
       ]
 
   -- ---- a lower rank precedes
 
-  module _ (place : ℕ → ℕ → Place) (o : Lawful place) where
+  module _ (place : ℕ → ℕ → Ordering) (o : Lawful place) where
     pub rank_lt : (a b : ℕ) → takes_part n running a ≡ true → takes_part n running b ≡ true → precedes place a b ≡ true
         → rank n running place a < rank n running place b
     rank_lt a b ha hb e =
@@ -125,10 +125,10 @@ module _ (n running : ℕ) where
 
     -- a proposal is not before one whose author's rank is not higher
     pub not_before : (a b : ℕ) → takes_part n running a ≡ true → takes_part n running b ≡ true
-        → rank n running place b ≤ rank n running place a → is_before (place a b) ≡ false
+        → rank n running place b ≤ rank n running place a → is_lt (place a b) ≡ false
     not_before a b ha hb l = go (place a b) (sym (rank_lower a b ha hb) ∙ le-ltb _ _ l)
       where
-        go : (x : Place) → is_before (then_by x (by_number a b)) ≡ false → is_before x ≡ false
+        go : (x : Ordering) → is_lt (ordering_then x (nat_cmp a b)) ≡ false → is_lt x ≡ false
         go x e = grind arith
 
     pub ranking : (ranks : ℕ → ℕ) → ((c : ℕ) → ranks c ≡ rank n running place c) → Ranking n running place ranks
@@ -140,10 +140,6 @@ module _ (n running : ℕ) where
 
 -- ---- the proposals that are read, and those that are not
 
-pub between_read : {P : Type 0} (places : P → P → Place) (proposals : List P) (a b : ℕ) (x y : P) → a < length proposals → b < length proposals
-    → x ≡ get_or proposals a x → y ≡ get_or proposals b y → between places proposals a b ≡ places x y
-between_read places proposals a b x y la lb ea eb = ap₂ (among places) (slice_get_read proposals _ a x refl la ea) (slice_get_read proposals _ b y refl lb eb)
-
 nth_set_other : {P : Type 0} (xs : List P) (f a : ℕ) (x : P) → (a ≡ f → ⊥) → slice_get (set xs f x) a ≡ slice_get xs a
 nth_set_other [] f a x ne = refl
 nth_set_other (y ∷ ys) zero zero x ne = absurd (ne refl)
@@ -151,7 +147,7 @@ nth_set_other (y ∷ ys) zero (suc a) x ne = refl
 nth_set_other (y ∷ ys) (suc f) zero x ne = refl
 nth_set_other (y ∷ ys) (suc f) (suc a) x ne = nth_set_other ys f a x (λ e. ne (ap suc e))
 
-pub rank_unread : {P : Type 0} (places : P → P → Place) (proposals : List P) (running : ℕ) (ranks : ℕ → ℕ)
+pub rank_unread : {P : Type 0} (places : P → P → Ordering) (proposals : List P) (running : ℕ) (ranks : ℕ → ℕ)
     → ((c : ℕ) → ranks c ≡ rank (length proposals) running (between places proposals) c) → Unread places proposals running ranks
 rank_unread places proposals running ranks each f x out c =
     rank_alike (length proposals) running (between places (set proposals f x)) (between places proposals)

@@ -3,33 +3,33 @@
 use Rattle.std.specs.Prelude.{ℕ, Bool, cond, ◌&&◌, List, Some, None, Option, nat_lt}
 use Rattle.std.specs.List.{slice_get}
 use Rattle.console_sets.specs.Sets.{count, member}
-use Rattle.orders.specs.declared.Place.{Place}
-use Rattle.orders.specs.declared.Place.TheVariants.{Before, Same, After}
-use Rattle.orders.specs.Places.{by_number, then_by, is_before}
+use Rattle.std.specs.declared.cmp.Ordering.{Ordering}
+use Rattle.std.specs.declared.cmp.Ordering.TheVariants.{Less, Equal, Greater}
+use Rattle.std.specs.Ordering.{is_lt, nat_cmp, ordering_then}
 
 -- where a proposal stands to another; an absent one comes after one that is there
-abbrev pub among : {P : Type 0} → (P → P → Place) → Option P → Option P → Place
+abbrev pub among : {P : Type 0} → (P → P → Ordering) → Option P → Option P → Ordering
 among places (Some x) (Some y) = places x y
-among places (Some x) None = Before
-among places None (Some y) = After
-among places None None = Same
+among places (Some x) None = Less
+among places None (Some y) = Greater
+among places None None = Equal
 
 -- where the proposal of author a stands to that of author b
-abbrev pub between : {P : Type 0} → (P → P → Place) → List P → ℕ → ℕ → Place
+abbrev pub between : {P : Type 0} → (P → P → Ordering) → List P → ℕ → ℕ → Ordering
 between places proposals a b = among places (slice_get proposals a) (slice_get proposals b)
 
 -- whether author a precedes author b: its proposal is before the other, or they are the same and a is the lower number
-abbrev pub precedes : (ℕ → ℕ → Place) → ℕ → ℕ → Bool
-precedes place a b = is_before (then_by (place a b) (by_number a b))
+abbrev pub precedes : (ℕ → ℕ → Ordering) → ℕ → ℕ → Bool
+precedes place a b = is_lt (ordering_then (place a b) (nat_cmp a b))
 
 -- whether a console runs and has one of the n proposals
 abbrev pub takes_part : ℕ → ℕ → ℕ → Bool
 takes_part n running c = nat_lt c n && member running c
 
 -- whether author b takes part and precedes author a
-abbrev pub ahead_of : ℕ → ℕ → (ℕ → ℕ → Place) → ℕ → ℕ → Bool
+abbrev pub ahead_of : ℕ → ℕ → (ℕ → ℕ → Ordering) → ℕ → ℕ → Bool
 ahead_of n running place a b = takes_part n running b && precedes place b a
 
 -- how many of those that take part precede author a, or 0 if a does not take part
-unfoldable pub rank : ℕ → ℕ → (ℕ → ℕ → Place) → ℕ → ℕ
+unfoldable pub rank : ℕ → ℕ → (ℕ → ℕ → Ordering) → ℕ → ℕ
 rank n running place a = cond (takes_part n running a) (count (ahead_of n running place a) n) 0

@@ -1,16 +1,16 @@
-// The kinds of proposal.
-ghost use Rattle.orders.specs.Places.{by_number, then_by};
+// The kinds of proposal. Their orders are written out and not derived, so that a clause says which proposal comes first.
+ghost use Rattle.std.specs.Ordering.{nat_cmp, ordering_then};
 ghost use Rattle.std.proofs.Common.{rules};
 
-use crate::places::by_number;
-use crate::{Order, Place};
+use crate::Order;
+use std::cmp::Ordering;
 
 // A cue: lower before higher.
 #[derive(Clone, Copy)]
 pub struct Cue(pub u32);
 
 impl Order for Cue {
-    ghost places = { λ a b. by_number a.0 b.0 };
+    ghost places = { λ a b. nat_cmp a.0 b.0 };
 
     ghost mirrored = { Prim.search rules };
 
@@ -18,8 +18,8 @@ impl Order for Cue {
 
     ghost alike = { Prim.search rules };
 
-    fn compare(&self, other: &Cue) -> Place {
-        by_number(self.0, other.0)
+    fn compare(&self, other: &Cue) -> Ordering {
+        self.0.cmp(&other.0)
     }
 }
 
@@ -31,7 +31,7 @@ pub struct FirstPress {
 }
 
 impl Order for FirstPress {
-    ghost places = { λ a b. then_by (by_number a.tick b.tick) (by_number a.cue b.cue) };
+    ghost places = { λ a b. ordering_then (nat_cmp a.tick b.tick) (nat_cmp a.cue b.cue) };
 
     ghost mirrored = { Prim.search rules };
 
@@ -39,7 +39,7 @@ impl Order for FirstPress {
 
     ghost alike = { Prim.search rules };
 
-    fn compare(&self, other: &FirstPress) -> Place {
-        by_number(self.tick, other.tick).then(by_number(self.cue, other.cue))
+    fn compare(&self, other: &FirstPress) -> Ordering {
+        self.tick.cmp(&other.tick).then(self.cue.cmp(&other.cue))
     }
 }

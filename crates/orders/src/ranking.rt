@@ -1,11 +1,10 @@
 // The ranks of the consoles that take part, by who precedes whom.
-ghost use Rattle.std.specs.Prelude.{◌≡◌, ℕ, ◌<◌, ◌&&◌, length, slice_index};
-ghost use Rattle.orders.specs.Ranks.{between, precedes, takes_part, ahead_of, rank};
+ghost use Rattle.std.specs.Prelude.{◌≡◌, ℕ, ◌<◌, length, slice_index};
+ghost use Rattle.orders.specs.Ranks.{between, precedes, takes_part, rank};
 ghost use Rattle.orders.specs.Laws.{Ranking, Unread};
 
 use crate::Order;
-use crate::places::by_number;
-use console_sets::{ConsoleSet, MAX_CONSOLES, Test, count_of, has};
+use console_sets::{ConsoleSet, MAX_CONSOLES, array_of, count_of, has};
 
 // Whether the console of index c runs and has a proposal.
 fn takes_part<P>(proposals: &[P], running: ConsoleSet, c: u8) -> bool
@@ -20,37 +19,18 @@ fn precedes<P: Order>(proposals: &[P], a: u8, b: u8) -> bool
     ensures { result ≡ precedes (between P.places proposals.now) a b }
 {
     let place = proposals[a as usize].compare(&proposals[b as usize]);
-    place.then(by_number(a as u32, b as u32)).is_before()
-}
-
-// The test that a console takes part and precedes the author, who takes part too.
-#[derive(Drop)]
-struct Ahead<'a, P> {
-    proposals: &'a [P],
-    running: ConsoleSet,
-    author: u8,
-}
-
-impl<P: Order> Test for Ahead<'_, P> {
-    ghost passes = { λ s c. takes_part (length s.proposals.now) s.running s.author && ahead_of (length s.proposals.now) s.running (between P.places s.proposals.now) s.author c };
-
-    fn test(&self, c: u8) -> bool {
-        takes_part(self.proposals, self.running, self.author)
-            && takes_part(self.proposals, self.running, c)
-            && precedes(self.proposals, c, self.author)
-    }
+    place.then(a.cmp(&b)).is_lt()
 }
 
 // How many of those that take part precede the author, or 0 if the author does not.
 fn rank_of<P: Order>(proposals: &[P], running: ConsoleSet, author: u8) -> u8
     ensures { result ≡ rank (length proposals.now) running (between P.places proposals.now) author }
 {
-    let ahead = Ahead {
-        proposals,
-        running,
-        author,
-    };
-    count_of(&ahead, MAX_CONSOLES as u8)
+    count_of(MAX_CONSOLES as u8, |c| {
+        takes_part(proposals, running, author)
+            && takes_part(proposals, running, c)
+            && precedes(proposals, c, author)
+    })
 }
 
 // The rank of each running console that has a proposal, by index: how many of them precede it. The others have 0.
@@ -59,9 +39,5 @@ pub fn ranks<P: Order>(proposals: &[P], running: ConsoleSet) -> [u8; MAX_CONSOLE
     ensures order { Ranking (length proposals.now) running (between P.places proposals.now) (λ c. slice_index result c) }
     ensures unread { Unread P.places proposals.now running (λ c. slice_index result c) }
 {
-    let mut ranks = [0; MAX_CONSOLES];
-    for (c, rank) in ranks.iter_mut().enumerate() {
-        *rank = rank_of(proposals, running, c as u8);
-    }
-    ranks
+    array_of(|author| rank_of(proposals, running, author))
 }
