@@ -1,11 +1,17 @@
 -- What each refusal shows, its number, layer and place, and what a call answers by its refusal.
-use Rattle.std.specs.Prelude.{◌≡◌, ℕ, Bool, cond, Some, None, Ok, Err, Option, Result, ◌==◌}
+use Rattle.std.specs.Prelude.{◌≡◌, ℕ, Bool, cond, List, Some, None, Ok, Err, Option, Result, codes, ◌==◌}
 use Rattle.rounds.specs.declared.refusals.Layer.{Layer}
-use Rattle.rounds.specs.declared.refusals.Layer.TheVariants.{Rig, Back}
+use Rattle.rounds.specs.declared.refusals.Layer.TheVariants.{File, Rig, Back}
 use Rattle.rounds.specs.declared.refusals.Refusal.{Refusal}
 use Rattle.rounds.specs.declared.refusals.Refusal.TheVariants.{Consoles, Tolerance, NotServed, PressOpen, BookFull, ProposalCount, WrongTicket, RoundLimit, ItemCount, OutsideMember, TooFewRunning, BadItem, ShortRow, NoSuch}
 
--- ---- what a refusal shows
+-- ---- what a layer and a refusal show
+
+-- the word of a layer on a sheet
+abbrev pub layer_word : Layer → List ℕ
+layer_word File = codes "file"
+layer_word Rig = codes "rig"
+layer_word Back = codes "back"
 
 abbrev pub number_of : Refusal → ℕ
 number_of Consoles = 1

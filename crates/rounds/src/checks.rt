@@ -1,10 +1,12 @@
 // The checks that calls meet, each refusing with the first number that fits, and whether a round is steady.
+// n, t, the running set and the rounds done are parameters: a struct of them would stand within `Panel` and `Progress`, and
+// every definition of a rig would read `panel.group.running` for `panel.running`.
 ghost use Rattle.std.specs.Prelude.{◌≡◌};
 ghost use Rattle.rounds.specs.Refusals.{answer};
 ghost use Rattle.rounds.specs.Rounds.{steady_round};
 ghost use Rattle.rounds.specs.Checks.{size_refusal, make_refusal, start_refusal, round_refusal, console_refusal};
 
-use crate::faults::{BadEntry, BadRow, NoQuorum, Uneven};
+use crate::faults::{is_bad_entry, is_bad_row, is_short_row, is_uneven_row};
 use crate::refusals::Refusal;
 use crate::sets::{is_known, is_quorum};
 use crate::{MAX_ROUNDS, MIN_CONSOLES};
@@ -48,17 +50,10 @@ pub fn check_start(n: u8, t: u8, running: ConsoleSet, entries: &[u8]) -> Result<
     if !is_quorum(n, t, running) {
         return Err(Refusal::TooFewRunning);
     }
-    match lowest_of(
-        &BadEntry {
-            n,
-            running,
-            entries,
-        },
-        n,
-    ) {
-        0 => Ok(()),
-        console => Err(Refusal::BadItem { console }),
+    if let Some(console) = lowest_of(n, |c| is_bad_entry(n, running, entries, c)) {
+        return Err(Refusal::BadItem { console });
     }
+    Ok(())
 }
 
 // Whether a round can follow `rounds` others: 8, 9, 10, 11, 12, 13.
@@ -84,30 +79,13 @@ pub fn check_round(
     if !is_quorum(n, t, difference(running, falls)) {
         return Err(Refusal::TooFewRunning);
     }
-    match lowest_of(
-        &BadRow {
-            running,
-            falls,
-            rows,
-        },
-        n,
-    ) {
-        0 => {}
-        console => return Err(Refusal::BadItem { console }),
+    if let Some(console) = lowest_of(n, |c| is_bad_row(running, falls, rows, c)) {
+        return Err(Refusal::BadItem { console });
     }
-    match lowest_of(
-        &NoQuorum {
-            n,
-            t,
-            running,
-            falls,
-            rows,
-        },
-        n,
-    ) {
-        0 => Ok(()),
-        console => Err(Refusal::ShortRow { console }),
+    if let Some(console) = lowest_of(n, |c| is_short_row(n, t, running, falls, rows, c)) {
+        return Err(Refusal::ShortRow { console });
     }
+    Ok(())
 }
 
 // Whether there is a console of this number: 14.
@@ -124,5 +102,5 @@ pub fn check_console(n: u8, console: u8) -> Result<(), Refusal>
 pub fn is_steady(n: u8, running: ConsoleSet, falls: ConsoleSet, rows: &[ConsoleSet]) -> bool
     ensures { result ≡ steady_round n running falls rows.now }
 {
-    (falls == 0) & (lowest_of(&Uneven { running, rows }, n) == 0)
+    (falls == 0) & lowest_of(n, |c| is_uneven_row(running, rows, c)).is_none()
 }

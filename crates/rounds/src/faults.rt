@@ -1,78 +1,48 @@
-// The faults that checks look for, as tests of consoles.
+// The faults that checks look for, console by console.
+ghost use Rattle.std.specs.Prelude.{◌≡◌};
 ghost use Rattle.rounds.specs.Rounds.{bad_entry, bad_row, short_row, uneven_row};
 
 use crate::items::item_or;
 use crate::sets::is_quorum;
-use console_sets::{ConsoleSet, Test, difference, has, is_within};
+use console_sets::{ConsoleSet, difference, has, is_within};
 
-// A console that runs and whose entry is not a console's number.
-#[derive(Clone, Copy)]
-pub struct BadEntry<'a> {
-    pub n: u8,
-    pub running: ConsoleSet,
-    pub entries: &'a [u8],
+// Whether the console of index c runs and its entry is not a console's number.
+pub fn is_bad_entry(n: u8, running: ConsoleSet, entries: &[u8], c: u8) -> bool
+    ensures { result ≡ bad_entry n running entries.now c }
+{
+    let entry = item_or(entries, c, 0);
+    has(running, c) & ((entry == 0) | (n < entry))
 }
 
-impl Test for BadEntry<'_> {
-    ghost passes = { λ s c. bad_entry s.n s.running s.entries.now c };
-
-    fn test(&self, c: u8) -> bool {
-        let entry = item_or(self.entries, c, 0);
-        has(self.running, c) & ((entry == 0) | (self.n < entry))
+// Whether its row is one that it cannot have.
+pub fn is_bad_row(running: ConsoleSet, falls: ConsoleSet, rows: &[ConsoleSet], c: u8) -> bool
+    ensures { result ≡ bad_row running falls rows.now c }
+{
+    let row = item_or(rows, c, 0);
+    if has(difference(running, falls), c) {
+        !(has(row, c) & is_within(row, running))
+    } else {
+        row != 0
     }
 }
 
-// A console with a row that it cannot have.
-#[derive(Clone, Copy)]
-pub struct BadRow<'a> {
-    pub running: ConsoleSet,
-    pub falls: ConsoleSet,
-    pub rows: &'a [ConsoleSet],
+// Whether it completes the round with a row that is no quorum.
+pub fn is_short_row(
+    n: u8,
+    t: u8,
+    running: ConsoleSet,
+    falls: ConsoleSet,
+    rows: &[ConsoleSet],
+    c: u8,
+) -> bool
+    ensures { result ≡ short_row n t running falls rows.now c }
+{
+    has(difference(running, falls), c) & !is_quorum(n, t, item_or(rows, c, 0))
 }
 
-impl Test for BadRow<'_> {
-    ghost passes = { λ s c. bad_row s.running s.falls s.rows.now c };
-
-    fn test(&self, c: u8) -> bool {
-        let row = item_or(self.rows, c, 0);
-        if has(difference(self.running, self.falls), c) {
-            !(has(row, c) & is_within(row, self.running))
-        } else {
-            row != 0
-        }
-    }
-}
-
-// A console that completes the round with a row that is no quorum.
-#[derive(Clone, Copy)]
-pub struct NoQuorum<'a> {
-    pub n: u8,
-    pub t: u8,
-    pub running: ConsoleSet,
-    pub falls: ConsoleSet,
-    pub rows: &'a [ConsoleSet],
-}
-
-impl Test for NoQuorum<'_> {
-    ghost passes = { λ s c. short_row s.n s.t s.running s.falls s.rows.now c };
-
-    fn test(&self, c: u8) -> bool {
-        has(difference(self.running, self.falls), c)
-            & !is_quorum(self.n, self.t, item_or(self.rows, c, 0))
-    }
-}
-
-// A console that runs and whose row is not the running set.
-#[derive(Clone, Copy)]
-pub struct Uneven<'a> {
-    pub running: ConsoleSet,
-    pub rows: &'a [ConsoleSet],
-}
-
-impl Test for Uneven<'_> {
-    ghost passes = { λ s c. uneven_row s.running s.rows.now c };
-
-    fn test(&self, c: u8) -> bool {
-        has(self.running, c) & (item_or(self.rows, c, 0) != self.running)
-    }
+// Whether it runs and its row is not the running set.
+pub fn is_uneven_row(running: ConsoleSet, rows: &[ConsoleSet], c: u8) -> bool
+    ensures { result ≡ uneven_row running rows.now c }
+{
+    has(running, c) & (item_or(rows, c, 0) != running)
 }

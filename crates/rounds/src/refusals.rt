@@ -1,6 +1,6 @@
 // Why a call is refused, and by which layer.
-ghost use Rattle.std.specs.Prelude.{◌≡◌};
-ghost use Rattle.rounds.specs.Refusals.{number_of, layer_of, place_of};
+ghost use Rattle.std.specs.Prelude.{◌≡◌, ◌≤◌, length};
+ghost use Rattle.rounds.specs.Refusals.{layer_word, number_of, layer_of, place_of};
 
 // The part of the engine that refuses.
 #[derive(Clone, Copy, PartialEq, Eq, Debug)]
@@ -11,6 +11,20 @@ pub enum Layer {
     Rig,
     // The kind of back end.
     Back,
+}
+
+impl Layer {
+    // Its word on a sheet. Not `Display`: of what `write!` prints std says the bytes only where it goes into a `String`.
+    pub fn word(self) -> &'static str
+        ensures holds { result.now ≡ layer_word self }
+        ensures short { length result.now ≤ 4 }
+    {
+        match self {
+            Layer::File => "file",
+            Layer::Rig => "rig",
+            Layer::Back => "back",
+        }
+    }
 }
 
 // Why a call of a rig or of a back end is refused, in the order of the numbers.

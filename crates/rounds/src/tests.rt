@@ -1,4 +1,5 @@
 use crate::checks::*;
+use crate::items::is_author;
 use crate::refusals::{Layer, Refusal};
 use crate::{MAX_ROUNDS, MIN_CONSOLES};
 use console_sets::{ConsoleSet, MAX_CONSOLES};
@@ -94,4 +95,19 @@ fn shown(rt: HostRuntime) {
     assert_eq!(rt; Refusal::NotServed.layer(), Layer::Back);
     assert_eq!(rt; Refusal::NoSuch.number(), 14);
     assert_eq!(rt; Refusal::NoSuch.place(), 0);
+}
+
+#[test]
+fn words(rt: HostRuntime) {
+    assert_eq!(rt; Layer::File.word(), "file");
+    assert_eq!(rt; Layer::Rig.word(), "rig");
+    assert_eq!(rt; Layer::Back.word(), "back");
+}
+
+#[test]
+fn authors(rt: HostRuntime) {
+    assert_eq!(rt; is_author(1, 0), true);
+    assert_eq!(rt; is_author(0, 0), false);
+    assert_eq!(rt; is_author(255, 254), true);
+    assert_eq!(rt; is_author(0, 255), false);
 }
