@@ -7,8 +7,8 @@ ghost use Rattle.rounds.specs.Checks.{make_refusal, start_refusal, round_refusal
 ghost use Rattle.back_end.specs.Kept.{Makes, Starts, Advances};
 
 use crate::progress::Progress;
-use console_sets::{ConsoleSet, MAX_CONSOLES, difference, has};
-use rounds::{Refusal, Source, array_of, check_make, check_round, check_start, is_steady, item_or};
+use console_sets::{ConsoleSet, MAX_CONSOLES, array_of, difference, has};
+use rounds::{Refusal, check_make, check_round, check_start, is_steady, item_or};
 
 impl Progress {
     // The progress as made for n and t, given whether they are served.
@@ -46,15 +46,15 @@ impl Progress {
         ensures { Answers result (round_refusal self.now.n self.now.t self.now.running self.now.rounds falls rows.now) (Advances falls rows.now self.now) }
     {
         check_round(self.n, self.t, self.running, self.rounds, falls, rows)?;
-        let mut steady = 0;
-        if is_steady(self.n, self.running, falls, rows) {
-            steady = self.steady + 1;
-        }
-        let running = difference(self.running, falls);
+        let steady = if is_steady(self.n, self.running, falls, rows) {
+            self.steady + 1
+        } else {
+            0
+        };
         Ok(Progress {
             n: self.n,
             t: self.t,
-            running,
+            running: difference(self.running, falls),
             entries: self.entries,
             rounds: self.rounds + 1,
             steady,
@@ -66,24 +66,11 @@ impl Progress {
 fn entered(running: ConsoleSet, entries: &[u8]) -> [u8; MAX_CONSOLES]
     ensures { (c : ℕ) → at result c ≡ (if member running c then at entries.now c else 0) }
 {
-    array_of(&Entries { running, entries }, 0)
-}
-
-// Each console's entry if it runs.
-#[derive(Clone, Copy)]
-struct Entries<'a> {
-    running: ConsoleSet,
-    entries: &'a [u8],
-}
-
-impl Source<u8> for Entries<'_> {
-    ghost item = { λ s c. (if member s.running c then at s.entries.now c else 0) };
-
-    fn item(&self, c: u8) -> u8 {
-        if has(self.running, c) {
-            item_or(self.entries, c, 0)
+    array_of(|c| {
+        if has(running, c) {
+            item_or(entries, c, 0)
         } else {
             0
         }
-    }
+    })
 }

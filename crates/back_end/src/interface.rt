@@ -1,47 +1,68 @@
 // The interface of a back end.
-ghost use Rattle.std.specs.Prelude.{◌≡◌, ℕ, ◌-◌, Bool, MatchResult};
+ghost use Rattle.std.specs.Prelude.{◌≡◌, ℕ, ◌-◌, Bool, List, MatchResult, OnOk};
 ghost use Rattle.rounds.specs.Items.{at};
 ghost use Rattle.rounds.specs.Refusals.{Answers};
 ghost use Rattle.rounds.specs.Checks.{make_refusal, console_refusal};
 ghost use Rattle.back_end.specs.Meaning.{Meaning};
-ghost use Rattle.back_end.specs.Calls.{start_answer, round_answer, Made, Started, Rounded};
+ghost use Rattle.back_end.specs.Calls.{start_refused, round_refused, start_answer, round_answer, Made, Started, Rounded};
 ghost use Rattle.back_end.specs.Laws.{Agrees, Settles};
 
 use console_sets::ConsoleSet;
 use rounds::Refusal;
 
 // A back end for n consoles of which at most t fall. A refusal and a question change nothing.
-pub trait BackEnd: Sized {
+// A round's fall set and rows are two parameters, as the rules name them: of a struct with both, each clause would have to
+// say `round.now.falls` and `round.now.rows.now`.
+pub trait BackEnd: Sized + Drop {
     // With more steady rounds than this, one after the other, every running console has a verdict.
     const BOUND: u32;
 
-    // The same bound, as clauses cite it.
-    ghost limit: { ℕ };
+    ghost BOUND: { ℕ };
 
     // The pairs n, t that it is made for.
     ghost serves: { ℕ → ℕ → Bool };
 
     ghost meaning: { Self → Meaning };
 
-    // The bound.
-    fn stated_bound() -> u32
-        ensures { result ≡ limit };
+    // What a start leaves, and what a round makes of a back end, by a rule of its own, beyond what every meaning has.
+    ghost Begins: { Self → Type 0 };
+
+    ghost GoesOn: { ℕ → List ℕ → Self → Self → Type 0 };
 
     // A back end that was not started yet: 1, 2, 3.
     fn make(n: u8, t: u8) -> Result<Self, Refusal>
         ensures { Answers result (make_refusal (serves n t) n t) (λ b. Made n t (meaning b)) };
 
-    // Begins anew, with one entry for each console, of which those of the running set count: 9, 10, 11, 12.
+    // A back end that begins anew, with one entry for each console, of which those of the running set count: 9, 10, 11, 12.
+    fn started(&self, running: ConsoleSet, entries: &[u8]) -> Result<Self, Refusal>
+        ensures { Answers result (start_refused (meaning self.now) running entries.now) (λ b. Started running entries.now (meaning self.now) (meaning b) × Begins b) };
+
+    // A back end one round on, with a fall set and one row for each console: 8, 9, 10, 11, 12, 13.
+    fn advanced(&self, falls: ConsoleSet, rows: &[ConsoleSet]) -> Result<Self, Refusal>
+        ensures { Answers result (round_refused (meaning self.now) falls rows.now) (λ b. Rounded falls rows.now (meaning self.now) (meaning b) × GoesOn falls rows.now self.now b) };
+
+    // Begins anew.
     fn start(&mut self, running: ConsoleSet, entries: &[u8]) -> Result<(), Refusal>
         ensures answers { result ≡ start_answer (meaning self.old) running entries.now }
-        ensures leaves { MatchResult result (λ _. Started running entries.now (meaning self.old) (meaning self.new)) (λ _. self.new ≡ self.old) };
+        ensures leaves { MatchResult result (λ _. Started running entries.now (meaning self.old) (meaning self.new)) (λ _. self.new ≡ self.old) }
+        ensures begins { OnOk result (Begins self.new) }
+    {
+        *self = self.started(running, entries)?;
+        Ok(())
+    }
 
-    // One round, with a fall set and one row for each console: 8, 9, 10, 11, 12, 13.
+    // One round.
     fn round(&mut self, falls: ConsoleSet, rows: &[ConsoleSet]) -> Result<(), Refusal>
         ensures answers { result ≡ round_answer (meaning self.old) falls rows.now }
-        ensures leaves { MatchResult result (λ _. Rounded falls rows.now (meaning self.old) (meaning self.new)) (λ _. self.new ≡ self.old) };
+        ensures leaves { MatchResult result (λ _. Rounded falls rows.now (meaning self.old) (meaning self.new)) (λ _. self.new ≡ self.old) }
+        ensures goes_on { OnOk result (GoesOn falls rows.now self.old self.new) }
+    {
+        *self = self.advanced(falls, rows)?;
+        Ok(())
+    }
 
-    // The verdict of a console, given by its number, 0 for none: 14.
+    // The verdict of a console, given by its number, 0 for none: 14. It and the steady count have no body here: that would bind
+    // every back end to keep a `Progress`.
     fn verdict(&self, console: u8) -> Result<u8, Refusal>
         ensures { Answers result (console_refusal (meaning self.now).n console) (λ v. v ≡ at (meaning self.now).verdicts (console - 1)) };
 
@@ -51,5 +72,5 @@ pub trait BackEnd: Sized {
 
     ghost agrees: { (b : Self) → Agrees (meaning b) };
 
-    ghost settles: { (b : Self) → Settles limit (meaning b) };
+    ghost settles: { (b : Self) → Settles BOUND (meaning b) };
 }

@@ -11,7 +11,7 @@ mod tests;
 mod votes;
 
 pub use interface::BackEnd;
-pub use largest::{Measure, largest_of};
+pub use largest::largest_of;
 pub use progress::Progress;
 pub use settled::is_settled;
 pub use votes::{backers, votes_of};

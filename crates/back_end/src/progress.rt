@@ -4,7 +4,7 @@ ghost use Rattle.console_sets.specs.Bound.{max_consoles};
 
 use console_sets::{ConsoleSet, MAX_CONSOLES};
 
-// Console c has its entry at the index c - 1.
+// Console c has its entry at the index c - 1, 0 for none: so the rules have it.
 #[derive(Clone, Copy)]
 pub struct Progress {
     pub n: u8,

@@ -6,8 +6,8 @@ use crate::interface::BackEnd;
 
 // Whether the steady count is above the bound. Then each running console has a verdict.
 pub fn is_settled<B: BackEnd>(b: &B) -> bool
-    ensures answers { result ≡ nat_lt B.limit (B.meaning b.now).steady }
+    ensures answers { result ≡ nat_lt B.BOUND (B.meaning b.now).steady }
     ensures decided { result ≡ true → Decided (B.meaning b.now) }
 {
-    B::stated_bound() < b.steady()
+    B::BOUND < b.steady()
 }

@@ -2,14 +2,6 @@ use crate::*;
 use rounds::Refusal;
 use std::test::Fail;
 
-// The refusal of a call that gives a progress.
-fn refusal(r: Result<Progress, Refusal>) -> Option<Refusal> {
-    match r {
-        Ok(_) => None,
-        Err(e) => Some(e),
-    }
-}
-
 #[test]
 fn entries_of_those_who_run(rt: HostRuntime) -> Result<(), Fail> {
     let made = Progress::make(4, 1, true)?;
@@ -41,17 +33,14 @@ fn steady_rounds(rt: HostRuntime) -> Result<(), Fail> {
 
 #[test]
 fn refusals(rt: HostRuntime) -> Result<(), Fail> {
-    assert_eq!(rt;
-        refusal(Progress::make(4, 1, false)),
-        Some(Refusal::NotServed)
-    );
+    assert_eq!(rt; Progress::make(4, 1, false).err(), Some(Refusal::NotServed));
     let made = Progress::make(4, 1, true)?;
     assert_eq!(rt;
-        refusal(made.advanced(0, &[0; 4])),
+        made.advanced(0, &[0; 4]).err(),
         Some(Refusal::TooFewRunning)
     );
     assert_eq!(rt;
-        refusal(made.started(15, &[1, 2, 3, 5])),
+        made.started(15, &[1, 2, 3, 5]).err(),
         Some(Refusal::BadItem { console: 4 })
     );
     Ok(())

@@ -1,15 +1,15 @@
-use Rattle.std.proofs.Common.{sym, ◌∙◌, inl, inr, arith}
-use Rattle.std.proofs.lemmas.Bool.{cases_lt, cond-false}
+use Rattle.std.proofs.Common.{rules, cond, arith}
+use Rattle.std.proofs.lemmas.Bool.{cond-false}
 use Rattle.console_sets.specs.Bound.{max_consoles}
 use Rattle.console_sets.specs.Sets.{member}
+use Rattle.console_sets.proofs.Everywhere.{everywhere}
 use Rattle.console_sets.proofs.Digits.{member_above}
+use Rattle.rounds.specs.Items.{at}
 use Rattle.back_end.proofs.calls.entered.Goals as goal
 
 pub returns : goal.returns
-returns c i =
-    elim (cases_lt i max_consoles) [
-      | inl l ↦ c.array_of.ensures.below i l
-      | inr l ↦
-          c.array_of.ensures.beyond i l
-          ∙ sym (cond-false (member c.args.running i) _ _ (member_above max_consoles c.args.running i (omega arith) l))
-    ]
+returns c =
+    let running = c.args.running in
+    everywhere c.array_of.result (λ i. cond (member running i) (at c.args.entries.now i) 0) 0
+    (c.array_of.ensures.below _ (λ i l x h. search rules) 0) (c.array_of.ensures.beyond 0)
+    (λ i l. cond-false (member running i) _ _ (member_above max_consoles running i (omega arith) l))

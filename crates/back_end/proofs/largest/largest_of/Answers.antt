@@ -3,8 +3,8 @@ use Rattle.back_end.proofs.Most.{largest_none, largest_step}
 use Rattle.back_end.proofs.largest.largest_of.Goals as goal
 
 pub loop-c-init : goal.loop-c-init
-loop-c-init g c = sym (largest_none (g.M.Measure.number c.args.measure.now))
+loop-c-init g c = λ f h. sym (largest_none f)
 
 pub loop-c-preserved : goal.loop-c-preserved
-loop-c-preserved g c =
-    omega (arith, largest_step (g.M.Measure.number c.args.measure.now) c.loop-c.c c.number.result c.number.ensures, c.loop-c.invariant)
+loop-c-preserved g c = λ f h.
+    omega (arith, largest_step f c.loop-c.c _ (h c.loop-c.c c.loop-c-test.true _ c.measure.ensures), c.loop-c.invariant f h)
