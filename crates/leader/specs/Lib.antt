@@ -1,10 +1,6 @@
 pub mod Rule
-pub mod Shown
 pub mod State
 pub mod Means
+pub mod Namers
+pub mod Shown
 pub mod Agreement
-pub mod Row
-pub mod Cases
-pub mod Invariant
-pub mod Keeps
-pub mod Steady

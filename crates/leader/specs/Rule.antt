@@ -1,6 +1,6 @@
 -- The rule of the back end Leader: which pairs it serves, what a row shows, and what a start and a round leave of each console.
 -- Index c stands for the console c + 1. A console's number is one more than its index, and 0 stands for none.
-use Rattle.std.specs.Prelude.{◌≡◌, ℕ, suc, ◌-◌, ◌*◌, Bool, true, false, cond, not, ◌&&◌, List, ◌==◌, nat_lt, slice_index_or}
+use Rattle.std.specs.Prelude.{◌≡◌, ℕ, suc, ◌-◌, ◌*◌, Bool, true, false, if◌then◌else◌, not, ◌&&◌, List, ◌==◌, nat_lt, slice_index_or}
 use Rattle.console_sets.specs.Bound.{max_consoles}
 use Rattle.console_sets.specs.Sets.{count, lowest, member}
 use Rattle.rounds.specs.Items.{at}
@@ -11,10 +11,6 @@ use Rattle.leader.specs.declared.console.Console.{Console}
 
 abbrev pub leader_serves : ℕ → ℕ → Bool
 leader_serves n t = nat_lt (2 * t) n
-
--- the bound: with three steady rounds, one after the other, every running console has a verdict
-abbrev pub leader_limit : ℕ
-leader_limit = 2
 
 -- ---- consoles
 
@@ -50,7 +46,7 @@ committed n row s = count (λ d. member row d && is_commit (s d).kind) n
 
 -- the highest stamp in the row, and whether the console d is there and has it
 abbrev pub peak : ℕ → ℕ → State → ℕ
-peak n row s = largest (λ d. cond (member row d) (s d).stamp 0) n
+peak n row s = largest (λ d. (if member row d then (s d).stamp else 0)) n
 
 abbrev pub tops : ℕ → ℕ → State → ℕ → Bool
 tops n row s d = member row d && (s d).stamp == peak n row s
@@ -59,12 +55,9 @@ tops n row s d = member row d && (s d).stamp == peak n row s
 abbrev pub named : ℕ → ℕ → State → ℕ → ℕ
 named n row s d = count (λ e. member row e && (s e).leader == suc d) n
 
--- the leader, given these numbers: more than n/2 name it, it is in the row, and none there has a higher stamp
-abbrev pub leading : (ℕ → ℕ) → ℕ → ℕ → State → ℕ
-leading naming n row s = lowest (λ d. tops n row s d && majority n (naming d)) n
-
+-- the leader: more than n/2 name it, it is in the row, and none there has a higher stamp
 abbrev pub led : ℕ → ℕ → State → ℕ
-led n row s = leading (named n row s) n row s
+led n row s = lowest (λ d. tops n row s d && majority n (named n row s d)) n
 
 -- rule 4: the lowest console with the highest stamp in the row
 abbrev pub foremost : ℕ → ℕ → State → ℕ
@@ -92,25 +85,24 @@ next_leader row = lowest (member row) max_consoles
 
 -- what f says of the console of this number, or what the later rules say if there is none
 abbrev pub by : ℕ → (ℕ → Console) → Console → Console
-by number f rest = cond (number == 0) rest (f (number - 1))
+by number f rest = (if number == 0 then rest else f (number - 1))
 
--- rules 3 and 4 in round k, given the leader
-abbrev pub turned : ℕ → ℕ → ℕ → ℕ → State → Console
-turned chief n k row s =
-    by chief (λ d. commits k (next_leader row) (s d))
+-- rules 3 and 4 in round k
+abbrev pub turned : ℕ → ℕ → ℕ → State → Console
+turned n k row s =
+    by (led n row s) (λ d. commits k (next_leader row) (s d))
     (prepares (next_leader row) (s (foremost n row s - 1)))
 
 -- rules 1 and 2 before them, for a console `own` without a verdict
-abbrev pub ruled : ℕ → ℕ → ℕ → ℕ → State → Console → Console
-ruled chief n k row s own =
+abbrev pub ruled : ℕ → ℕ → ℕ → State → Console → Console
+ruled n k row s own =
     by (informed n row s) (λ d. decides own (s d).verdict)
-    (cond (is_commit own.kind && majority n (committed n row s)) (decides own own.estimate)
-    (turned chief n k row s))
+    (if is_commit own.kind && majority n (committed n row s) then decides own own.estimate else turned n k row s)
 
 -- the console c after round k, where `complete` is the set of those that complete it
 abbrev pub console_after : ℕ → ℕ → ℕ → List ℕ → State → ℕ → Console
 console_after n k complete rows s c =
-    cond (member complete c && (s c).verdict == 0) (ruled (led n (at rows c) s) n k (at rows c) s (s c)) (s c)
+    (if member complete c && (s c).verdict == 0 then ruled n k (at rows c) s (s c) else s c)
 
 -- ---- the calls
 

@@ -64,3 +64,19 @@ Committed steady running s =
 -- after three they have verdicts
 abbrev pub Settled : ℕ → ℕ → State → Type 0
 Settled steady running s = 2 < steady → (c : ℕ) → member running c ≡ true → (s c).verdict ≢ 0
+
+-- ---- all of it
+
+pub record Keeps (n t running rounds steady : ℕ) (entries : List ℕ) (s : State) : Type 0 where
+  pub served : 2 * t < n
+  pub stamped : Stamped rounds s
+  pub single : Single s
+  pub fresh : Fresh rounds running s
+  pub backed : Backed n s
+  pub entered : Entered n entries s
+  pub estimating : Estimating running s
+  pub even : Even steady running s
+  pub naming : Naming steady running s
+  pub present : Present steady running s
+  pub committed : Committed steady running s
+  pub settled : Settled steady running s

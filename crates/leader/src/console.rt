@@ -1,27 +1,17 @@
 // A console of Leader.
 ghost use Rattle.std.specs.Prelude.{◌≡◌};
-ghost use Rattle.leader.specs.Rule.{is_commit, who};
+ghost use Rattle.leader.specs.Rule.{opening, who};
 
 use rounds::item_or;
 
-#[derive(Clone, Copy)]
+#[derive(Clone, Copy, PartialEq, Eq)]
 pub enum Kind {
     Prepare,
     Commit,
 }
 
-impl Kind {
-    pub fn is_commit(self) -> bool
-        ensures { result ≡ is_commit self }
-    {
-        match self {
-            Kind::Prepare => false,
-            Kind::Commit => true,
-        }
-    }
-}
-
-// What a console has. The stamp is a round's number; estimate, leader and verdict are consoles' numbers, 0 for none.
+// What a console has. The stamp is a round's number; estimate, leader and verdict are consoles' numbers, 0 for none, as in
+// the entries and verdicts of the interface.
 #[derive(Clone, Copy)]
 pub struct Console {
     pub estimate: u8,
@@ -31,18 +21,24 @@ pub struct Console {
     pub verdict: u8,
 }
 
-// A console as a start leaves it, but for its estimate.
-pub const BLANK: Console = Console {
-    estimate: 0,
-    stamp: 0,
-    kind: Kind::Prepare,
-    leader: 1,
-    verdict: 0,
-};
+impl Console {
+    // A console as a start leaves it, by its entry.
+    pub fn opening(entry: u8) -> Console
+        ensures { result ≡ opening entry }
+    {
+        Console {
+            estimate: entry,
+            stamp: 0,
+            kind: Kind::Prepare,
+            leader: 1,
+            verdict: 0,
+        }
+    }
+}
 
-// The console at the index c.
+// The console at the index c, or beyond the end one without an entry.
 pub fn console_at(consoles: &[Console], c: u8) -> Console
     ensures { result ≡ who consoles.now c }
 {
-    item_or(consoles, c, BLANK)
+    item_or(consoles, c, Console::opening(0))
 }

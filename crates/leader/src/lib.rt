@@ -4,7 +4,6 @@
 mod calls;
 mod console;
 mod heard;
-mod naming;
 mod rules;
 mod shows;
 mod state;

@@ -1,17 +1,16 @@
 // The rules of a round for a console without a verdict.
 ghost use Rattle.std.specs.Prelude.{◌≡◌};
-ghost use Rattle.back_end.specs.Votes.{common};
-ghost use Rattle.leader.specs.Rule.{who, leading, ruled};
+ghost use Rattle.leader.specs.Rule.{who, next_leader, ruled};
 ghost use Rattle.leader.specs.Shown.{takes};
 
 use crate::console::{Console, Kind};
 use crate::heard::Heard;
-use crate::naming::next_leader;
 use crate::shows::{Origin, Shows};
+use console_sets::{ConsoleSet, lowest_member};
 
 // The console after round k: the first rule that fits its kind and what its row shows.
-pub fn ruled_by(k: u32, own: Console, heard: Heard<'_>) -> Console
-    ensures { result ≡ ruled (leading (common heard.entry.row heard.entry.namers.now) heard.entry.n heard.entry.row (who heard.entry.consoles.now)) heard.entry.n k heard.entry.row (who heard.entry.consoles.now) own }
+pub fn ruled_by(k: u32, own: Console, heard: &Heard<'_>) -> Console
+    ensures { result ≡ ruled heard.now.n k heard.now.row (who heard.now.consoles.now) own }
 {
     match (own.kind, Shows::of(heard)) {
         (_, Shows::Verdict(verdict)) => Console { verdict, ..own },
@@ -45,4 +44,12 @@ fn taken(k: u32, leader: u8, origin: Origin) -> Console
             verdict: 0,
         },
     }
+}
+
+// The leader that it names then: the lowest console in the row, or 0 for an empty one.
+#[tactic(auto, unfolding(crate::specs::Rule::next_leader))]
+fn next_leader(row: ConsoleSet) -> u8
+    ensures { result ≡ next_leader row }
+{
+    lowest_member(row).unwrap_or(0)
 }

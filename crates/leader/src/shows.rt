@@ -1,13 +1,11 @@
 // What a row shows a console.
 ghost use Rattle.std.specs.Prelude.{◌≡◌};
-ghost use Rattle.back_end.specs.Votes.{common};
-ghost use Rattle.leader.specs.Rule.{who, leading};
+ghost use Rattle.leader.specs.Rule.{who};
 ghost use Rattle.leader.specs.Shown.{origin, shown};
 
 use crate::console::{Console, console_at};
-use crate::heard::{Committed, Heard, Informed, Leading, Stamped, Stamps, is_majority};
-use back_end::largest_of;
-use console_sets::{count_of, lowest_of};
+use crate::heard::{Heard, is_majority};
+use console_sets::count_of;
 
 // From whom a console takes its estimate.
 #[derive(Clone, Copy)]
@@ -29,15 +27,14 @@ pub enum Shows {
 }
 
 impl Shows {
-    pub fn of(heard: Heard<'_>) -> Shows
-        ensures { result ≡ shown (leading (common heard.entry.row heard.entry.namers.now) heard.entry.n heard.entry.row (who heard.entry.consoles.now)) heard.entry.n heard.entry.row (who heard.entry.consoles.now) }
+    pub fn of(heard: &Heard<'_>) -> Shows
+        ensures { result ≡ shown heard.now.n heard.now.row (who heard.now.consoles.now) }
     {
-        let teller = lowest_of(&Informed(heard), heard.n);
-        if teller != 0 {
-            return Shows::Verdict(console_at(heard.consoles, teller - 1).verdict);
+        if let Some(verdict) = heard.verdict() {
+            return Shows::Verdict(verdict);
         }
         let origin = Origin::of(heard);
-        let commits = count_of(&Committed(heard), heard.n) as u32;
+        let commits = count_of(heard.n, |c| heard.is_committed(c)) as u32;
         if is_majority(heard.n, commits) {
             Shows::Commits(origin)
         } else {
@@ -47,18 +44,17 @@ impl Shows {
 }
 
 impl Origin {
-    fn of(heard: Heard<'_>) -> Origin
-        ensures { result ≡ origin (leading (common heard.entry.row heard.entry.namers.now) heard.entry.n heard.entry.row (who heard.entry.consoles.now)) heard.entry.n heard.entry.row (who heard.entry.consoles.now) }
+    fn of(heard: &Heard<'_>) -> Origin
+        ensures { result ≡ origin heard.now.n heard.now.row (who heard.now.consoles.now) }
     {
-        let stamp = largest_of(&Stamps(heard), heard.n);
-        let top = Stamped { heard, stamp };
-        match lowest_of(&Leading(top), heard.n) {
-            0 => {
-                // The row is not empty, so this is no 0.
-                let latest = lowest_of(&top, heard.n);
-                Origin::Latest(console_at(heard.consoles, latest.saturating_sub(1)))
-            }
-            leader => Origin::Leader(console_at(heard.consoles, leader - 1)),
+        let highest = heard.peak();
+        if let Some(leader) = heard.lowest(|c| heard.leads(highest, c)) {
+            return Origin::Leader(leader);
+        }
+        match heard.lowest(|c| heard.tops(highest, c)) {
+            Some(latest) => Origin::Latest(latest),
+            // Only where nobody is in the row, not even the console itself.
+            None => Origin::Latest(console_at(heard.consoles, 0)),
         }
     }
 }

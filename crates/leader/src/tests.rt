@@ -7,18 +7,9 @@ use std::test::Fail;
 
 // A Leader of three consoles of which one may fall, started with all three.
 fn started(entries: &[u8]) -> Result<Leader, Refusal> {
-    let mut b = <Leader as BackEnd>::make(3, 1)?;
+    let mut b = Leader::make(3, 1)?;
     b.start(7, entries)?;
     Ok(b)
-}
-
-// The calls without their contracts, which no test needs.
-fn start(b: &mut Leader, running: ConsoleSet, entries: &[u8]) -> Result<(), Refusal> {
-    b.start(running, entries)
-}
-
-fn round(b: &mut Leader, falls: ConsoleSet, rows: &[ConsoleSet]) -> Result<(), Refusal> {
-    b.round(falls, rows)
 }
 
 fn verdicts(b: &Leader) -> Result<[u8; 3], Refusal> {
@@ -30,7 +21,7 @@ fn verdicts(b: &Leader) -> Result<[u8; 3], Refusal> {
 struct Line(ConsoleSet, [ConsoleSet; 3], [u8; 3]);
 
 fn play(rt: &impl Abort, b: &mut Leader, line: Line) -> Result<(), Fail> {
-    round(b, line.0, &line.1)?;
+    b.round(line.0, &line.1)?;
     assert_eq!(rt; verdicts(b)?, line.2);
     Ok(())
 }
@@ -82,35 +73,27 @@ fn falls_and_restart(rt: HostRuntime) -> Result<(), Fail> {
         Line(0, [0, 6, 6], [0, 1, 1]),
     ];
     play_all(&rt, &mut b, &lines)?;
-    start(&mut b, 6, &[0, 3, 2])?;
+    b.start(6, &[0, 3, 2])?;
     assert_eq!(rt; verdicts(&b)?, [0, 0, 0]);
     assert_eq!(rt; b.steady(), 0);
     Ok(())
 }
 
-// Why no Leader is made for n and t.
-fn unmade(n: u8, t: u8) -> Option<Refusal> {
-    match <Leader as BackEnd>::make(n, t) {
-        Ok(_) => None,
-        Err(e) => Some(e),
-    }
-}
-
 #[test]
 fn refused_makes(rt: HostRuntime) {
-    assert_eq!(rt; unmade(2, 1), Some(Refusal::Consoles));
-    assert_eq!(rt; unmade(4, 2), Some(Refusal::Tolerance));
+    assert_eq!(rt; Leader::make(2, 1).err(), Some(Refusal::Consoles));
+    assert_eq!(rt; Leader::make(4, 2).err(), Some(Refusal::Tolerance));
 }
 
 #[test]
 fn before_a_start(rt: HostRuntime) -> Result<(), Fail> {
-    let mut b = <Leader as BackEnd>::make(3, 1)?;
-    assert_eq!(rt; start(&mut b, 7, &[1, 2]), Err(Refusal::ItemCount));
-    assert_eq!(rt; start(&mut b, 15, &[1, 2, 3]), Err(Refusal::OutsideMember));
-    assert_eq!(rt; start(&mut b, 4, &[1, 2, 3]), Err(Refusal::TooFewRunning));
+    let mut b = Leader::make(3, 1)?;
+    assert_eq!(rt; b.start(7, &[1, 2]), Err(Refusal::ItemCount));
+    assert_eq!(rt; b.start(15, &[1, 2, 3]), Err(Refusal::OutsideMember));
+    assert_eq!(rt; b.start(4, &[1, 2, 3]), Err(Refusal::TooFewRunning));
     let bad = Refusal::BadItem { console: 2 };
-    assert_eq!(rt; start(&mut b, 7, &[1, 4, 0]), Err(bad));
-    assert_eq!(rt; round(&mut b, 0, &[7, 7, 7]), Err(Refusal::TooFewRunning));
+    assert_eq!(rt; b.start(7, &[1, 4, 0]), Err(bad));
+    assert_eq!(rt; b.round(0, &[7, 7, 7]), Err(Refusal::TooFewRunning));
     Ok(())
 }
 
@@ -126,13 +109,13 @@ fn no_such_console(rt: HostRuntime) -> Result<(), Fail> {
 fn refused_rounds(rt: HostRuntime) -> Result<(), Fail> {
     let mut b = started(&[1, 2, 3])?;
     play(&rt, &mut b, Line(0, [7, 7, 7], [0, 0, 0]))?;
-    assert_eq!(rt; round(&mut b, 0, &[7, 7]), Err(Refusal::ItemCount));
-    assert_eq!(rt; round(&mut b, 8, &[7, 7, 7]), Err(Refusal::OutsideMember));
-    assert_eq!(rt; round(&mut b, 3, &[0, 0, 7]), Err(Refusal::TooFewRunning));
+    assert_eq!(rt; b.round(0, &[7, 7]), Err(Refusal::ItemCount));
+    assert_eq!(rt; b.round(8, &[7, 7, 7]), Err(Refusal::OutsideMember));
+    assert_eq!(rt; b.round(3, &[0, 0, 7]), Err(Refusal::TooFewRunning));
     let bad = Refusal::BadItem { console: 2 };
-    assert_eq!(rt; round(&mut b, 0, &[7, 5, 7]), Err(bad));
+    assert_eq!(rt; b.round(0, &[7, 5, 7]), Err(bad));
     let short = Refusal::ShortRow { console: 3 };
-    assert_eq!(rt; round(&mut b, 0, &[7, 7, 4]), Err(short));
+    assert_eq!(rt; b.round(0, &[7, 7, 4]), Err(short));
     play(&rt, &mut b, Line(0, [7, 7, 7], [1, 1, 1]))
 }
 
@@ -140,8 +123,8 @@ fn refused_rounds(rt: HostRuntime) -> Result<(), Fail> {
 fn round_limit(rt: HostRuntime) -> Result<(), Fail> {
     let mut b = started(&[1, 2, 3])?;
     for _ in 0..MAX_ROUNDS {
-        round(&mut b, 0, &[7, 7, 7])?;
+        b.round(0, &[7, 7, 7])?;
     }
-    assert_eq!(rt; round(&mut b, 0, &[7, 7, 7]), Err(Refusal::RoundLimit));
+    assert_eq!(rt; b.round(0, &[7, 7, 7]), Err(Refusal::RoundLimit));
     Ok(())
 }

@@ -19,7 +19,7 @@ use Rattle.third.specs.Rule.{poll, estimate_after, verdict_after, ThirdRound}
 use Rattle.third.specs.Means.{third_meaning}
 use Rattle.third.specs.declared.state.Third.{Third}
 use Rattle.third.proofs.Choice.{favourite_same, elected_same}
-use Rattle.third.specs.Keeps.{Keeps, keeps}
+use Rattle.third.specs.State.{Keeps}
 use Rattle.third.proofs.Round.{gained, kept}
 
 -- the list that the code makes has the items at the indices of consoles, and 0 beyond
@@ -74,11 +74,11 @@ module _ (b : Third) (p : Progress) (falls : ℕ) (rows sets estimates verdicts 
       let steps : ThirdRound q.n (completing q.running falls) rows b.estimates b.verdicts estimates verdicts =
       subst (λ (s : ℕ). ThirdRound q.n s rows b.estimates b.verdicts estimates verdicts) stood.runs
       (made_round q.n p.running rows b.estimates b.verdicts sets q.few small are estimates verdicts long long' new new') in
-      let means = advances b.verdicts verdicts (gained (third_meaning b) falls rows b.estimates estimates verdicts q.within ok (keeps b) steps) in
+      let means = advances b.verdicts verdicts (gained (third_meaning b) falls rows b.estimates estimates verdicts q.within ok b.keeps steps) in
       record {
         means = means;
         steps = steps;
         keep =
             subst (λ (m : Meaning). Keeps m estimates) (sym (rounded_is falls rows (third_meaning b) (meaning_with p verdicts) means))
-            (kept (third_meaning b) falls rows b.estimates estimates verdicts q.within ok (keeps b) steps);
+            (kept (third_meaning b) falls rows b.estimates estimates verdicts q.within ok b.keeps steps);
       }

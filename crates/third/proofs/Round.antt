@@ -13,9 +13,8 @@ use Rattle.back_end.specs.Votes.{backing}
 use Rattle.back_end.proofs.Ballots.{backer, voter, voted, votes_le, votes-all}
 use Rattle.back_end.proofs.Next.{next}
 use Rattle.third.specs.Rule.{poll, favourite, elected, ThirdRound}
-use Rattle.third.specs.State.{Entered, Listed, Backed, Even, Settled}
+use Rattle.third.specs.State.{Entered, Listed, Backed, Even, Settled, Keeps}
 use Rattle.third.proofs.Choice.{Most, favourite_most, elected_many, many_elected, most_is}
-use Rattle.third.specs.Keeps.{Keeps}
 
 -- a steady count that is not 0 was counted in a steady round, and one above 1 was not 0 before it
 steady_of : (b : Bool) (steady : ℕ) → 0 < cond b (steady + 1) 0 → b ≡ true

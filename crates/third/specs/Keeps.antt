@@ -1,4 +1,4 @@
--- What every state of Third keeps, as one record over its meaning and its estimates: what follows from it, and how it begins.
+-- What follows from what every state of Third keeps, and how it begins.
 use Rattle.std.specs.Prelude.{◌≡◌, ℕ, ◌*◌, ◌^◌, ◌<◌, ◌≤◌, true, false, List, nat_eq}
 use Rattle.std.proofs.Common.{sym, ap, subst, ◌∙◌, inl, inr, arith}
 use Rattle.std.proofs.lemmas.Bool.{cases_Bool, cond-true, cond-false, eqb-true, both_ways}
@@ -12,29 +12,7 @@ use Rattle.back_end.specs.Calls.{Blank, Made, Started}
 use Rattle.back_end.specs.Laws.{Agrees}
 use Rattle.back_end.specs.Votes.{backing}
 use Rattle.back_end.proofs.Ballots.{backed, backer}
-use Rattle.third.specs.State.{Entered, Listed, Estimating, Backed, Even, Settled}
-use Rattle.third.specs.Means.{third_meaning}
-use Rattle.third.specs.declared.state.Third.{Third}
-
-pub record Keeps (m : Meaning) (estimates : List ℕ) : Type 0 where
-  pub served : 3 * m.t < m.n
-  pub entered : Entered m.n m.entries estimates
-  pub listed : Listed m.n estimates
-  pub estimating : Estimating m.running estimates
-  pub backed : Backed m.n estimates m.verdicts
-  pub even : Even m.steady m.running estimates
-  pub settled : Settled m.steady m.running m.verdicts
-
-pub keeps : (b : Third) → Keeps (third_meaning b) b.estimates
-keeps b = record {
-  served = b.served;
-  entered = b.entered;
-  listed = b.listed;
-  estimating = b.estimating;
-  backed = b.backed;
-  even = b.even;
-  settled = b.settled;
-}
+use Rattle.third.specs.State.{Keeps}
 
 -- the verdicts agree: of two, more than two thirds have each as their estimate, so that somebody has both
 pub agrees : (m : Meaning) (estimates : List ℕ) → Keeps m estimates → Agrees m

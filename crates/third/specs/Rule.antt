@@ -9,10 +9,6 @@ use Rattle.back_end.specs.Votes.{votes}
 abbrev pub third_serves : ℕ → ℕ → Bool
 third_serves n t = nat_lt (3 * t) n
 
--- with more steady rounds than this, one after the other, every running console has a verdict
-abbrev pub third_limit : ℕ
-third_limit = 1
-
 -- how many consoles in a row have each author
 abbrev pub poll : ℕ → ℕ → List ℕ → ℕ → ℕ
 poll n row estimates a = votes n row estimates (suc a)

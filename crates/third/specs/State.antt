@@ -2,6 +2,7 @@
 use Rattle.std.specs.Prelude.{◌≡◌, ℕ, ◌*◌, ◌<◌, ◌≤◌, true, ◌≢◌, List}
 use Rattle.console_sets.specs.Sets.{member}
 use Rattle.rounds.specs.Items.{at}
+use Rattle.back_end.specs.Meaning.{Meaning}
 use Rattle.back_end.specs.Votes.{backing}
 
 -- an estimate is an entry
@@ -28,3 +29,13 @@ Even steady running estimates =
 -- after two, one after the other, they have verdicts
 abbrev pub Settled : ℕ → ℕ → List ℕ → Type 0
 Settled steady running verdicts = 1 < steady → (c : ℕ) → member running c ≡ true → at verdicts c ≢ 0
+
+-- what every state keeps, by its meaning and its estimates
+pub record Keeps (m : Meaning) (estimates : List ℕ) : Type 0 where
+  pub served : 3 * m.t < m.n
+  pub entered : Entered m.n m.entries estimates
+  pub listed : Listed m.n estimates
+  pub estimating : Estimating m.running estimates
+  pub backed : Backed m.n estimates m.verdicts
+  pub even : Even m.steady m.running estimates
+  pub settled : Settled m.steady m.running m.verdicts

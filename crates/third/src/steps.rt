@@ -1,53 +1,55 @@
 // What a round leaves of the estimates and verdicts, console by console.
+ghost use Rattle.std.specs.Prelude.{◌≡◌};
 ghost use Rattle.rounds.specs.Items.{at};
 ghost use Rattle.back_end.specs.Votes.{common};
 ghost use Rattle.third.specs.Rule.{estimate_after, verdict_after};
 
-use crate::polls::{Heard, Poll, elected_of, favourite_of};
+use crate::polls::Poll;
 use console_sets::{ConsoleSet, has};
-use rounds::{Source, item_or};
+use rounds::item_or;
 
-// The estimates after a round that the consoles of `complete` complete.
+// A round that the consoles of `complete` complete, with their rows, and of each author the set of the consoles that have
+// it at the round's start.
 #[derive(Clone, Copy)]
-pub struct Estimates<'a> {
+pub struct Round<'a> {
+    pub n: u8,
     pub complete: ConsoleSet,
-    pub heard: Heard<'a>,
-    pub estimates: &'a [u8],
+    pub rows: &'a [ConsoleSet],
+    pub backers: &'a [ConsoleSet],
 }
 
-impl Source<u8> for Estimates<'_> {
-    ghost item = { λ s c. estimate_after s.heard.n s.complete (λ d. common (at s.heard.rows.now d) s.heard.backers.now) s.estimates.now c };
-
-    fn item(&self, c: u8) -> u8 {
-        if has(self.complete, c) {
-            favourite_of(&Poll {
-                heard: self.heard,
-                c,
-            })
-        } else {
-            item_or(self.estimates, c, 0)
+impl Round<'_> {
+    // What the console of index c hears.
+    fn poll(&self, c: u8) -> Poll<'_>
+        ensures n { result.n ≡ self.now.n }
+        ensures row { result.row ≡ at self.now.rows.now c }
+        ensures backers { result.backers.now ≡ self.now.backers.now }
+    {
+        Poll {
+            n: self.n,
+            row: item_or(self.rows, c, 0),
+            backers: self.backers,
         }
     }
-}
 
-// The verdicts after it.
-#[derive(Clone, Copy)]
-pub struct Verdicts<'a> {
-    pub complete: ConsoleSet,
-    pub heard: Heard<'a>,
-    pub verdicts: &'a [u8],
-}
+    // Its estimate after the round.
+    pub fn estimate(&self, estimates: &[u8], c: u8) -> u8
+        ensures { result ≡ estimate_after self.now.n self.now.complete (λ d. common (at self.now.rows.now d) self.now.backers.now) estimates.now c }
+    {
+        if has(self.complete, c) {
+            self.poll(c).favourite()
+        } else {
+            item_or(estimates, c, 0)
+        }
+    }
 
-impl Source<u8> for Verdicts<'_> {
-    ghost item = { λ s c. verdict_after s.heard.n s.complete (λ d. common (at s.heard.rows.now d) s.heard.backers.now) s.verdicts.now c };
-
-    fn item(&self, c: u8) -> u8 {
-        let had = item_or(self.verdicts, c, 0);
+    // Its verdict after the round.
+    pub fn verdict(&self, verdicts: &[u8], c: u8) -> u8
+        ensures { result ≡ verdict_after self.now.n self.now.complete (λ d. common (at self.now.rows.now d) self.now.backers.now) verdicts.now c }
+    {
+        let had = item_or(verdicts, c, 0);
         if has(self.complete, c) & (had == 0) {
-            elected_of(&Poll {
-                heard: self.heard,
-                c,
-            })
+            self.poll(c).elected()
         } else {
             had
         }

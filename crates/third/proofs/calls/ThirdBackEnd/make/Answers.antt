@@ -14,7 +14,7 @@ invariant_of-result c =
     let e = c.in_ok-progress.ensures in
     let served : 3 * t < n = ltb-true (3 * t) n (sym c.is_served.ensures ∙ (make_ok c.is_served.result n t e.0).0) in
     let k = made_keeps n t _ (e.1 (replicate max_consoles 0) (λ i. blank max_consoles i 0)) served c.in_ok-progress.progress.within in
-    record { served = k.served; entered = k.entered; listed = k.listed; estimating = k.estimating; backed = k.backed; even = k.even; settled = k.settled }
+    record { keeps = k }
 
 pub returns : goal.returns
 returns c =

@@ -9,12 +9,11 @@ use Rattle.console_sets.proofs.Counting.{count_mono}
 use Rattle.rounds.specs.Rounds.{completing}
 use Rattle.rounds.specs.Laws.{RoundOk, Steady}
 use Rattle.leader.specs.Rule.{State, is_commit, committed, named, led, turned, console_after}
-use Rattle.leader.specs.State.{Quiet}
+use Rattle.leader.specs.State.{Quiet, Keeps}
 use Rattle.leader.specs.declared.console.Console.{Console}
-use Rattle.leader.specs.Row.{Top, silent, is_led, next_in}
-use Rattle.leader.specs.Cases.{Past, Turned, led_by, followed, stays, turned_leads, turned_follows, turned_names}
-use Rattle.leader.specs.Invariant.{Keeps}
-use Rattle.leader.specs.Agreement.{undecided}
+use Rattle.leader.proofs.Row.{Top, silent, is_led, next_in}
+use Rattle.leader.proofs.Cases.{Past, Turned, led_by, followed, stays, turned_leads, turned_follows, turned_names}
+use Rattle.leader.proofs.Round.{undecided}
 
 module _ {n t running rounds steady falls : ℕ} {entries rows : List ℕ} {s after : State} (k : Keeps n t running rounds steady entries s)
     (ok : RoundOk n t running rounds falls rows)
@@ -42,10 +41,10 @@ module _ {n t running rounds steady falls : ℕ} {entries rows : List ℕ} {s af
         ]
 
     -- and by rule 3 or 4 all have become the same
-    turn : (c : ℕ) → member (completing running falls) c ≡ true → after c ≡ turned (led n running s) n (rounds + 1) running s
+    turn : (c : ℕ) → member (completing running falls) c ≡ true → after c ≡ turned n (rounds + 1) running s
     turn c m = go (undecided_in c m (quiet c m)).1
       where
-        go : Turned n (rounds + 1) running s (after c) → after c ≡ turned (led n running s) n (rounds + 1) running s
+        go : Turned n (rounds + 1) running s (after c) → after c ≡ turned n (rounds + 1) running s
         go (led_by d l e) = e ∙ sym (turned_leads n (rounds + 1) running s d l)
         go (followed d l h e) = e ∙ sym (turned_follows n (rounds + 1) running s d l h)
 

@@ -1,7 +1,8 @@
 -- What is known of what a row shows.
 use Rattle.std.specs.Prelude.{◌≡◌, ℕ, suc, ◌*◌, ◌<◌, ◌≤◌, true, cond, not, ◌&&◌, ◌≢◌, ◌==◌}
-use Rattle.std.proofs.Common.{sym, ◌∙◌, inl, inr, arith}
-use Rattle.std.proofs.lemmas.Bool.{cases_Bool, and_parts, and_from, and_cases, eqb-true, eqb-false, eq-eqb, ltb-true, lt-ltb, not-true, not-false, cond-true, cond-false, both_ways}
+use Rattle.std.proofs.Common.{inl, inr, arith}
+use Rattle.std.proofs.lemmas.Bool.Decides.{nat_tests}
+use Rattle.std.proofs.lemmas.Bool.{cases_Bool, and_parts, ltb-true}
 use Rattle.console_sets.specs.Bound.{max_consoles}
 use Rattle.console_sets.specs.Sets.{member}
 use Rattle.console_sets.proofs.Lowest.{lowest_zero, lowest_is, lowest_some}
@@ -21,15 +22,12 @@ module _ (n row : ℕ) (s : State) where
   pub silent : informed n row s ≡ 0 → (d : ℕ) → d < n → member row d ≡ true → (s d).verdict ≡ 0
   silent e d l m =
       let z = lowest_zero (λ d. member row d && not ((s d).verdict == 0)) n e d l in
-      elim (and_cases (member row d) (not ((s d).verdict == 0)) z) [
-        | inl f ↦ absurd (both_ways (member row d) f m)
-        | inr f ↦ eqb-true (s d).verdict 0 (not-false ((s d).verdict == 0) f)
-      ]
+      grind (arith, nat_tests)
 
   pub teller : (d : ℕ) → informed n row s ≡ suc d → (s d).verdict ≢ 0
   teller d e =
       let h = lowest_is (λ d. member row d && not ((s d).verdict == 0)) n d e in
-      eqb-false (s d).verdict 0 (not-true ((s d).verdict == 0) (and_parts (member row d) (not ((s d).verdict == 0)) h.1).1)
+      grind (arith, nat_tests)
 
   -- a console in the row with no lower stamp than any there
   pub record Top (d : ℕ) : Type 0 where
@@ -39,26 +37,23 @@ module _ (n row : ℕ) (s : State) where
 
   under : (e : ℕ) → e < n → member row e ≡ true → (s e).stamp ≤ peak n row s
   under e l m =
-      omega (arith, largest_le (λ d. cond (member row d) (s d).stamp 0) n e l, cond-true (member row e) (s e).stamp 0 m)
+      let h = largest_le (λ d. cond (member row d) (s d).stamp 0) n e l in
+      grind (arith, nat_tests)
 
   top_is : (d : ℕ) → d < n → tops n row s d ≡ true → Top d
-  top_is d l t =
-      let p = and_parts (member row d) ((s d).stamp == peak n row s) t in
-      record { below = l; heard = p.0; highest = λ e k m. omega (arith, under e k m, eqb-true (s d).stamp (peak n row s) p.1) }
+  top_is d l t = record {
+    below = l;
+    heard = grind (arith, nat_tests);
+    highest = λ e k m. let u = under e k m in grind (arith, nat_tests);
+  }
 
   is_top : (d : ℕ) → Top d → tops n row s d ≡ true
-  is_top d t = and_from (member row d) _ t.heard (eq-eqb (s d).stamp (peak n row s) level)
-    where
-      high : peak n row s ≤ (s d).stamp
-      high =
-          let m = largest_is (λ e. cond (member row e) (s e).stamp 0) n (omega (arith, t.below)) in
-          elim (cases_Bool (member row m.0)) [
-            | inl h ↦ omega (arith, t.highest m.0 m.1 h, m.2, cond-true (member row m.0) (s m.0).stamp 0 h)
-            | inr h ↦ omega (arith, m.2, cond-false (member row m.0) (s m.0).stamp 0 h)
-          ]
-
-      level : (s d).stamp ≡ peak n row s
-      level = omega (arith, high, under d t.below t.heard)
+  is_top d t =
+      let m = largest_is (λ e. cond (member row e) (s e).stamp 0) n (omega (arith, t.below)) in
+      let h = t.highest m.0 m.1 in
+      let u = under d t.below t.heard in
+      let r = t.heard in
+      grind (arith, nat_tests)
 
   -- the leader of rule 3
   pub led_is : (d : ℕ) → led n row s ≡ suc d → Top d × (n < 2 * named n row s d)
@@ -69,8 +64,9 @@ module _ (n row : ℕ) (s : State) where
 
   pub is_led : (d : ℕ) → Top d → n < 2 * named n row s d → led n row s ≢ 0
   is_led d t many e =
-      both_ways _ (lowest_zero (λ d. tops n row s d && majority n (named n row s d)) n e d t.below)
-      (and_from (tops n row s d) (majority n (named n row s d)) (is_top d t) (lt-ltb n (2 * named n row s d) many))
+      let z = lowest_zero (λ d. tops n row s d && majority n (named n row s d)) n e d t.below in
+      let h = is_top d t in
+      grind (arith, nat_tests)
 
   -- the console of rule 4
   pub foremost_is : (d : ℕ) → foremost n row s ≡ suc d → Top d
@@ -80,10 +76,6 @@ module _ (n row : ℕ) (s : State) where
   some_foremost c l m =
       let f = largest_is (λ e. cond (member row e) (s e).stamp 0) n (omega arith) in
       elim (cases_Bool (member row f.0)) [
-        | inl h ↦
-            lowest_some (tops n row s) n f.0 f.1
-            (and_from (member row f.0) _ h (eq-eqb (s f.0).stamp (peak n row s) (sym (cond-true (member row f.0) (s f.0).stamp 0 h) ∙ f.2)))
-        | inr h ↦
-            lowest_some (tops n row s) n c l
-            (and_from (member row c) _ m (eq-eqb (s c).stamp (peak n row s) (omega (arith, under c l m, f.2, cond-false (member row f.0) (s f.0).stamp 0 h))))
+        | inl h ↦ lowest_some (tops n row s) n f.0 f.1 (grind (arith, nat_tests))
+        | inr h ↦ let u = under c l m in lowest_some (tops n row s) n c l (grind (arith, nat_tests))
       ]

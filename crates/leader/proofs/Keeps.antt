@@ -1,59 +1,31 @@
 -- What every state keeps holds as a start leaves it, and a round carries it on.
-use Rattle.std.specs.Prelude.{◌≡◌, ℕ, zero, suc, ◌+◌, ◌*◌, ◌^◌, ◌<◌, ◌≤◌, Bool, true, false, cond, List, [], ◌∷◌, map, Some, None, Option, ◌≢◌, refl}
-use Rattle.std.proofs.Common.{sym, ap, subst, ◌∙◌, inl, inr, arith}
+use Rattle.std.proofs.Common.{◌≡◌, ℕ, ◌+◌, ◌*◌, ◌^◌, ◌<◌, ◌≤◌, Bool, true, false, cond, List, [], map, None, refl, sym, ap, subst, ◌∙◌, inl, inr, arith}
 use Rattle.std.proofs.lemmas.Bool.{cases_Bool, cond-true, cond-false, both_ways, ltb-true}
 use Rattle.console_sets.specs.Bound.{max_consoles}
 use Rattle.console_sets.specs.Sets.{member}
 use Rattle.console_sets.proofs.Digits.{member_below, member_none}
 use Rattle.rounds.specs.Items.{at}
 use Rattle.rounds.specs.Rounds.{completing, steady_round}
-use Rattle.rounds.specs.Refusals.{either}
-use Rattle.rounds.specs.Checks.{size_refusal, make_refusal}
-use Rattle.rounds.specs.declared.refusals.Refusal.{Refusal}
-use Rattle.rounds.specs.declared.refusals.Refusal.TheVariants.{NotServed}
+use Rattle.rounds.specs.Checks.{make_refusal, round_refusal}
 use Rattle.rounds.specs.Laws.{StartOk, RoundOk, Steady}
-use Rattle.rounds.proofs.Accepted.{steady_ok}
+use Rattle.rounds.proofs.Accepted.{make_ok, round_ok, steady_ok}
 use Rattle.back_end.specs.Meaning.{Meaning}
-use Rattle.back_end.specs.Kept.{meaning_with}
+use Rattle.back_end.specs.Kept.{meaning_with, Makes, Starts, Advances}
 use Rattle.back_end.specs.declared.progress.Progress.{Progress}
 use Rattle.back_end.specs.Calls.{Blank, Made, Started, Gained, Rounded}
 use Rattle.back_end.specs.Votes.{backing}
 use Rattle.back_end.proofs.Ballots.{backed}
 use Rattle.back_end.proofs.Next.{rounded_is}
 use Rattle.leader.specs.Rule.{leader_serves, State, is_commit, opening, who, console_after, Opened, LeaderRound}
+use Rattle.leader.specs.State.{Keeps}
 use Rattle.leader.specs.Means.{leader_meaning}
+use Rattle.leader.specs.Agreement.{verdict_at}
 use Rattle.leader.specs.declared.console.Console.{Console}
 use Rattle.leader.specs.declared.state.Leader.{Leader}
-use Rattle.leader.specs.Cases.{stays, others}
-use Rattle.leader.specs.Invariant.{Keeps}
-use Rattle.leader.specs.Agreement.{stamped_after, single_after, fresh_after, backed_after, entered_after, estimating_after}
-use Rattle.leader.specs.Steady.{alike, present_after, committed_after, settled_after}
-
--- the same, said of a meaning
-abbrev pub Kept : Meaning → State → Type 0
-Kept m s = Keeps m.n m.t m.running m.rounds m.steady m.entries s
-
-pub keeps : (b : Leader) → Kept (leader_meaning b) (who b.consoles)
-keeps b = record {
-  served = b.served;
-  stamped = b.stamped;
-  single = b.single;
-  fresh = b.fresh;
-  backed = b.backed;
-  entered = b.entered;
-  estimating = b.estimating;
-  even = b.even;
-  naming = b.naming;
-  present = b.present;
-  committed = b.committed;
-  settled = b.settled;
-}
-
--- the verdicts as a list
-pub verdict_at : (consoles : List Console) (c : ℕ) → at (map (λ x. x.verdict) consoles) c ≡ (who consoles c).verdict
-verdict_at [] c = refl
-verdict_at (x ∷ consoles) zero = refl
-verdict_at (x ∷ consoles) (suc c) = verdict_at consoles c
+use Rattle.leader.proofs.Cases.{stays, others}
+use Rattle.leader.proofs.Invariant.{Kept, keeps}
+use Rattle.leader.proofs.Round.{stamped_after, single_after, fresh_after, backed_after, entered_after, estimating_after}
+use Rattle.leader.proofs.Steady.{alike, present_after, committed_after, settled_after}
 
 pub no_verdicts : (entries : List ℕ) (consoles : List Console) → Opened entries consoles → Blank (map (λ x. x.verdict) consoles)
 no_verdicts entries consoles opens c = verdict_at consoles c ∙ ap (λ (x : Console). x.verdict) (opens c)
@@ -97,15 +69,7 @@ fresh_keeps m s new none k =
 
 -- what serves n and t
 serves : (n t : ℕ) → make_refusal (leader_serves n t) n t ≡ None → 2 * t < n
-serves n t e =
-    elim (cases_Bool (leader_serves n t)) [
-      | inl f ↦ ltb-true (2 * t) n f
-      | inr f ↦ absurd (never (size_refusal n t) (sym (ap (λ (b : Bool). make_refusal b n t) f) ∙ e))
-    ]
-  where
-    never : (first : Option Refusal) → either first (Some NotServed) ≢ None
-    never None h = let z : ◌≡◌ {A = ℕ} 0 1 = cc in omega arith
-    never (Some r) h = let z : ◌≡◌ {A = ℕ} 0 1 = cc in omega arith
+serves n t e = ltb-true (2 * t) n (make_ok (leader_serves n t) n t e).0
 
 pub made_keeps : (n t : ℕ) (s : State) (m : Meaning) → Made n t m → make_refusal (leader_serves n t) n t ≡ None → m.running < 2 ^ m.n
     → ((c : ℕ) → s c ≡ opening (at m.entries c)) → Kept m s
@@ -147,8 +111,7 @@ gained n k running falls rows before after round = record {
 
 -- the round in the terms of the progress before it, and what it does to the meaning
 module _ (p p' : Progress) (falls : ℕ) (rows : List ℕ) (before after : List Console)
-    (goes : (had has : List ℕ) → Gained p.running falls had has → Rounded falls rows (meaning_with p had) (meaning_with p' has))
-    (round : LeaderRound p'.n p'.rounds p'.running rows before after) where
+    (goes : Advances falls rows p p') (round : LeaderRound p'.n p'.rounds p'.running rows before after) where
   pub as_begun : LeaderRound p.n (p.rounds + 1) (completing p.running falls) rows before after
   as_begun =
       let r = goes [] [] (record { keeps = λ c x. refl; others = λ c m. refl }) in
@@ -196,3 +159,22 @@ pub round_keeps : (falls : ℕ) (rows : List ℕ) (s after : State) (before m : 
 round_keeps falls rows s after before m r few within ok rule k =
     subst (λ (x : Meaning). Kept x after) (sym (rounded_is falls rows before m r))
     (next_keeps before.n before.t before.running before.rounds before.steady falls before.entries rows s after few within ok rule k)
+
+-- ---- the calls
+
+pub as_made : (n t : ℕ) (p : Progress) (consoles : List Console) → Makes n t p → Opened p.entries consoles → Made n t (meaning_with p (map (λ x. x.verdict) consoles))
+as_made n t p consoles makes opens = makes _ (no_verdicts p.entries consoles opens)
+
+pub as_started : (b : Leader) (running : ℕ) (entries : List ℕ) (p : Progress) (consoles : List Console)
+    → Starts running entries b.progress p → Opened p.entries consoles → Started running entries (leader_meaning b) (meaning_with p (map (λ x. x.verdict) consoles))
+as_started b running entries p consoles starts opens = starts _ _ (no_verdicts p.entries consoles opens)
+
+pub advanced_keeps : (b : Leader) (falls : ℕ) (rows : List ℕ) (p : Progress) (after : List Console) → Advances falls rows b.progress p
+    → LeaderRound p.n p.rounds p.running rows b.consoles after
+    → round_refusal b.progress.n b.progress.t b.progress.running b.progress.rounds falls rows ≡ None
+    → Keeps p.n p.t p.running p.rounds p.steady p.entries (who after)
+advanced_keeps b falls rows p after goes round accepted =
+    let q = b.progress in
+    round_keeps falls rows (who b.consoles) (who after) (leader_meaning b) (meaning_with p (map (λ x. x.verdict) after))
+    (as_meant q p falls rows b.consoles after goes round) q.few q.within (round_ok q.n q.t q.running q.rounds falls rows q.within accepted)
+    (as_begun q p falls rows b.consoles after goes round) (keeps b)
