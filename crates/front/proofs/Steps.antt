@@ -1,5 +1,5 @@
 -- What each round of 1 to t + 1 does, over the run that the definitions make: who completes it, whom it halts, and which estimate it gives.
-use Rattle.std.proofs.Common.{◌≡◌, ℕ, suc, ◌+◌, ◌-◌, ◌^◌, ◌<◌, ◌≤◌, Bool, true, false, not, ◌&&◌, ◌||◌, eqb, ltb, leb, List, [], ◌∷◌, ◌++◌, length, sym, refl, ap, ◌∙◌, inl, inr, arith}
+use Rattle.std.proofs.Common.{◌≡◌, ℕ, suc, ◌+◌, ◌-◌, ◌^◌, ◌<◌, ◌≤◌, Bool, true, false, not, ◌&&◌, eqb, ltb, leb, List, [], ◌∷◌, ◌++◌, length, sym, refl, ap, ◌∙◌, inl, inr, arith}
 use Rattle.std.proofs.lemmas.Bool.{cases_Bool, and_parts, and_from, cond-true, cond-false, le-leb, lt-leb, lt-ltb, eq-eqb, eqb-true}
 use Rattle.console_sets.specs.Sets.{member}
 use Rattle.console_sets.proofs.Digits.{member_none, member-without, member_below, without_lt}
@@ -100,12 +100,10 @@ module _ (o : Opening) (opens : Sound o) where
     halted i m = ap (λ (s : State). s i) (state_halting o r q early) ∙ cond-true (member (running o (r ∷ q)) i) _ _ m
 
     pub new_halt : (i : ℕ) → member (running o (r ∷ q)) i ≡ true → (state o (r ∷ q) i).halt ≡ halt_set o.n (at r.rows i) (state o q) i
-    unfolding halting
     new_halt i m = ap (λ (c : Console). c.halt) (halted i m)
 
     chosen_by : (i : ℕ) → member (running o (r ∷ q)) i ≡ true
         → (state o (r ∷ q) i).estimate ≡ foremost o.n o.rank (candidates o.n (at r.rows i) (state o (r ∷ q) i).halt (state o q))
-    unfolding halting
     chosen_by i m =
         ap (λ (c : Console). c.estimate) (halted i m)
         ∙ ap (λ (h : ℕ). foremost o.n o.rank (candidates o.n (at r.rows i) h (state o q))) (sym (new_halt i m))
@@ -118,7 +116,6 @@ module _ (o : Opening) (opens : Sound o) where
         ∙ ap (λ (b : Bool). b && halts (at r.rows i) (state o q) i j) (lt-ltb j o.n l)
 
     pub undecided_still : (i : ℕ) → (state o (r ∷ q) i).decision ≡ (state o q i).decision
-    unfolding halting
     undecided_still i =
         elim (cases_Bool (member (running o (r ∷ q)) i)) [
           | inl m ↦ ap (λ (c : Console). c.decision) (halted i m)
@@ -146,6 +143,11 @@ module _ (o : Opening) (opens : Sound o) where
     pub is : (state o q i).estimate ≡ suc author
     pub author_ran : member o.ran author ≡ true
 
+  -- nobody that completes a round comes to halt itself in it
+  not_itself : (r : Round) (q : List Round) → Accepted o (r ∷ q) → length q ≤ o.t → (i : ℕ) → member (running o (r ∷ q)) i ≡ true
+      → member (state o q i).halt i ≡ false → member (state o (r ∷ q) i).halt i ≡ false
+  not_itself r q good early i m out = grind (arith, gained r q early i i (below (r ∷ q) i m) m, (ok r q good).itself i m)
+
   pub own : (q : List Round) → Accepted o q → length q ≤ o.t + 1 → (i : ℕ) → member (running o q) i ≡ true → Own q i
   own [] good l i m = record { unhalted = member_none i; author = i; is = cond-true (member o.ran i) (suc i) 0 m; author_ran = m }
   own (r ∷ q) good l i m =
@@ -157,16 +159,13 @@ module _ (o : Opening) (opens : Sound o) where
       let k = ok r q good in
       let mine = own q good.0 (omega arith) i (stays r q i m) in
       let li = below (r ∷ q) i m in
-      let out : member halt i ≡ false = gained r q early i i li m ∙ still (member (s i).halt i) (member row i) mine.unhalted (k.itself i m) in
+      let out = not_itself r q good early i m mine.unhalted in
       let offer = offering n row halt s mine.author i (below [] mine.author mine.author_ran) li (k.itself i m) out mine.is in
       let a = foremost_some n o.rank (candidates n row halt s) mine.author (below [] mine.author mine.author_ran) offer in
       let j = offered_by n row halt s a.0 (foremost_is n o.rank (candidates n row halt s) a.0 a.1).1 in
       let theirs = own q good.0 (omega arith) j.0 (k.heard i j.0 m j.2) in
       let same : theirs.author ≡ a.0 = omega (arith, sym theirs.is ∙ j.4) in
       record { unhalted = out; author = a.0; is = chosen_by r q early i m ∙ a.1; author_ran = ap (member o.ran) (sym same) ∙ theirs.author_ran }
-    where
-      still : (x y : Bool) → x ≡ false → y ≡ true → (x || not y || (y && x)) ≡ false
-      still x y e f = grind arith
 
 -- the rank of an author by its number
 abbrev pub rank_of : Opening → ℕ → ℕ

@@ -1,7 +1,7 @@
 -- What a console has in a press: an estimate; a halt set, that is, the consoles whose estimates it leaves aside; a decision, with its round and its cause.
 -- And what all have when a press opens.
 -- Index c stands for the console c + 1. An author is a console's number, 0 for none.
-use Rattle.std.specs.Prelude.{ℕ, suc, cond, List, codes, slice_index_or}
+use Rattle.std.specs.Prelude.{ℕ, suc, if◌then◌else◌, List, codes, slice_index_or}
 use Rattle.console_sets.specs.Sets.{member}
 use Rattle.front.specs.declared.consoles.Cause.{Cause}
 use Rattle.front.specs.declared.consoles.Cause.TheVariants.{None, Front, Relay, Back}
@@ -28,4 +28,4 @@ state_of consoles c = slice_index_or consoles c (fresh 0)
 
 -- the state that a press opens with: a running console's estimate is its own number
 abbrev pub opened : ℕ → State
-opened running c = fresh (cond (member running c) (suc c) 0)
+opened running c = fresh (if member running c then suc c else 0)

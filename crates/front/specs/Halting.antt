@@ -1,6 +1,6 @@
 -- Rounds 1 to t + 1: the halt set and the estimate that a round gives. The state s is that at the round's start, and `row` is the set of the consoles
 -- that the console i heard. `rank` gives the rank of each author by index.
-use Rattle.std.specs.Prelude.{ℕ, suc, Bool, cond, not, ◌&&◌, ◌||◌, List, ◌==◌}
+use Rattle.std.specs.Prelude.{ℕ, suc, Bool, if◌then◌else◌, not, ◌&&◌, ◌||◌, List, ◌==◌}
 use Rattle.console_sets.specs.Sets.{member, set_of}
 use Rattle.rounds.specs.Items.{at}
 use Rattle.front.specs.declared.consoles.Console.{Console}
@@ -24,7 +24,7 @@ abbrev pub candidates : ℕ → ℕ → ℕ → State → ℕ
 candidates n row halt s = set_of (λ a. some (offers row halt s a) n) n
 
 -- what i has after a round that it completes: the new halt set, and of the candidates outside that one the author that precedes all others
-unfoldable pub halting : ℕ → (ℕ → ℕ) → ℕ → State → ℕ → Console
+abbrev pub halting : ℕ → (ℕ → ℕ) → ℕ → State → ℕ → Console
 halting n rank row s i = record {
   estimate = foremost n rank (candidates n row (halt_set n row s i) s);
   halt = halt_set n row s i;
@@ -35,4 +35,4 @@ halting n rank row s i = record {
 
 -- the state after the round: who does not complete it keeps what it has
 unfoldable pub after_halting : ℕ → (ℕ → ℕ) → ℕ → List ℕ → State → State
-after_halting n rank completing rows s c = cond (member completing c) (halting n rank (at rows c) s c) (s c)
+after_halting n rank completing rows s c = if member completing c then halting n rank (at rows c) s c else s c

@@ -1,6 +1,6 @@
 -- The run of a press's front: who runs, what each console has and which entries it hands over, as functions of what the press opened with and of its
 -- accepted rounds, the latest first. The two are taken apart, so that the functions compute when a round is added.
-use Rattle.std.specs.Prelude.{◌≡◌, ℕ, suc, ◌+◌, ◌*◌, ◌^◌, ◌<◌, true, cond, List, [], ◌∷◌, length, None, ◌==◌, nat_le}
+use Rattle.std.specs.Prelude.{◌≡◌, ℕ, suc, ◌+◌, ◌*◌, ◌^◌, ◌<◌, true, if◌then◌else◌, List, [], ◌∷◌, length, None, ◌==◌, nat_le}
 use Rattle.console_sets.specs.Sets.{member}
 use Rattle.rounds.specs.Rounds.{completing, Truthful}
 use Rattle.rounds.specs.Checks.{round_refusal}
@@ -28,8 +28,8 @@ running o (r ∷ rs) = completing (running o rs) r.falls
 -- the state after round k: rounds after t + 2 are not the front's
 unfoldable pub after : Opening → ℕ → ℕ → List ℕ → State → State
 after o k completing rows s =
-    cond (nat_le k (o.t + 1)) (after_halting o.n o.rank completing rows s)
-    (cond (k == o.t + 2) (after_deciding o.n o.t completing rows s) s)
+    if nat_le k (o.t + 1) then after_halting o.n o.rank completing rows s
+    else (if k == o.t + 2 then after_deciding o.n o.t completing rows s else s)
 
 -- what each console has after these rounds
 abbrev pub state : Opening → List Round → State
@@ -40,7 +40,7 @@ state o (r ∷ rs) = after o (suc (length rs)) (running o (r ∷ rs)) r.rows (st
 abbrev pub entries : Opening → List Round → ℕ → ℕ
 entries o [] c = 0
 entries o (r ∷ rs) c =
-    cond (length rs == o.t + 1) (entries_after o.n o.t (running o (r ∷ rs)) r.rows (state o rs) c) (entries o rs c)
+    if length rs == o.t + 1 then entries_after o.n o.t (running o (r ∷ rs)) r.rows (state o rs) c else entries o rs c
 
 -- what is asked of an opening: fewer than half may fall, who runs is one of the n, and no two of those have the same rank
 pub record Sound (o : Opening) : Type 0 where

@@ -15,5 +15,5 @@ abbrev pub first : ℕ → (ℕ → ℕ) → ℕ → ℕ → Bool
 first n rank authors a = member authors a && not (some (ahead rank authors a) n)
 
 -- the number of the author in the set that precedes all others of it, 0 if the set is empty
-unfoldable pub foremost : ℕ → (ℕ → ℕ) → ℕ → ℕ
+abbrev pub foremost : ℕ → (ℕ → ℕ) → ℕ → ℕ
 foremost n rank authors = lowest (first n rank authors) n

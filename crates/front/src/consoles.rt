@@ -2,8 +2,8 @@
 ghost use Rattle.std.specs.Prelude.{◌≡◌, ℕ};
 ghost use Rattle.front.specs.Consoles.{word_of, fresh, state_of, opened};
 
-use console_sets::{ConsoleSet, MAX_CONSOLES, has};
-use rounds::{Source, array_of, item_or};
+use console_sets::{ConsoleSet, MAX_CONSOLES, array_of, has};
+use rounds::item_or;
 
 // What gave a console its decision.
 #[derive(Clone, Copy, PartialEq, Eq, Debug)]
@@ -19,7 +19,7 @@ pub enum Cause {
 }
 
 impl Cause {
-    // Its word on a sheet.
+    // Its word on a sheet. Not `Display`: of what `write!` prints std says the bytes only where it goes into a `String`.
     pub fn word(self) -> &'static str
         ensures { result.now ≡ word_of self }
     {
@@ -33,6 +33,7 @@ impl Cause {
 }
 
 // What a console has in a press. An author is a console's number, 0 for none.
+// Numbers and no `Option`: by the rules 0 means none in every state, entry and page, and so the definitions say it.
 #[derive(Clone, Copy, PartialEq, Eq, Debug)]
 pub struct Console {
     // The author that it would decide on.
@@ -47,43 +48,31 @@ pub struct Console {
     pub cause: Cause,
 }
 
-// A console that has nothing yet but an estimate.
-pub(crate) fn fresh(estimate: u8) -> Console
-    ensures { result ≡ fresh estimate }
-{
-    Console {
-        estimate,
-        halt: 0,
-        decision: 0,
-        round: 0,
-        cause: Cause::None,
+impl Console {
+    // A console that has nothing yet but an estimate.
+    pub fn fresh(estimate: u8) -> Console
+        ensures { result ≡ fresh estimate }
+    {
+        Console {
+            estimate,
+            halt: 0,
+            decision: 0,
+            round: 0,
+            cause: Cause::None,
+        }
     }
 }
 
 // What the console of index c has. Beyond MAX_CONSOLES none has anything.
-pub(crate) fn console_at(consoles: &[Console; MAX_CONSOLES], c: u8) -> Console
+pub fn console_at(consoles: &[Console; MAX_CONSOLES], c: u8) -> Console
     ensures { result ≡ state_of consoles.now c }
 {
-    item_or(consoles, c, fresh(0))
+    item_or(consoles, c, Console::fresh(0))
 }
 
 // What each console has when a press opens.
 pub fn opening_consoles(running: ConsoleSet) -> [Console; MAX_CONSOLES]
     ensures { (c : ℕ) → state_of result c ≡ opened running c }
 {
-    array_of(&Opening { running }, fresh(0))
-}
-
-// The opening of a press, as each console's state.
-#[derive(Clone, Copy)]
-struct Opening {
-    running: ConsoleSet,
-}
-
-impl Source<Console> for Opening {
-    ghost item = { λ s c. opened s.running c };
-
-    fn item(&self, c: u8) -> Console {
-        fresh(if has(self.running, c) { c + 1 } else { 0 })
-    }
+    array_of(|c| Console::fresh(if has(running, c) { c + 1 } else { 0 }))
 }

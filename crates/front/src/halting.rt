@@ -1,162 +1,80 @@
 // Rounds 1 to t + 1: gaining the halt set, and the authors among whom the estimate is chosen.
-ghost use Rattle.std.specs.Prelude.{◌≡◌, ℕ, suc, ◌≤◌, min, ◌==◌};
+ghost use Rattle.std.specs.Prelude.{◌≡◌, ℕ, ◌≤◌, min};
 ghost use Rattle.console_sets.specs.Bound.{max_consoles};
 ghost use Rattle.rounds.specs.Items.{at};
 ghost use Rattle.front.specs.Consoles.{state_of};
 ghost use Rattle.front.specs.Searches.{some};
 ghost use Rattle.front.specs.Halting.{halts, offers, candidates, halting, after_halting};
 
-use crate::consoles::{Console, console_at, fresh};
+use crate::consoles::{Console, console_at};
+use crate::hearing::Heard;
 use crate::precedence::foremost;
-use console_sets::{ConsoleSet, MAX_CONSOLES, Test, has, lowest_of, set_of};
-use rounds::{Source, array_of, item_or};
+use console_sets::{ConsoleSet, MAX_CONSOLES, array_of, has, lowest_of, set_of};
+use rounds::is_author;
 
 // What each console has after a round of 1 to t + 1, by who completes it and whom each heard. Who does not complete it keeps
 // what it has. An n above MAX_CONSOLES counts as MAX_CONSOLES.
-pub fn after_halting<'a>(
+pub fn after_halting(
     n: u8,
-    ranks: &'a [u8],
+    ranks: &[u8],
     completing: ConsoleSet,
-    rows: &'a [ConsoleSet],
-    consoles: &'a [Console; MAX_CONSOLES],
+    rows: &[ConsoleSet],
+    consoles: &[Console; MAX_CONSOLES],
 ) -> [Console; MAX_CONSOLES]
     ensures { (c : ℕ) → state_of result c ≡ after_halting (min n max_consoles) (at ranks.now) completing rows.now (state_of consoles.now) c }
 {
-    let round = HaltingRound {
-        n,
-        ranks,
-        completing,
-        rows,
-        consoles,
-    };
-    array_of(&round, fresh(0))
+    let n = n.min(MAX_CONSOLES as u8);
+    array_of(|c| match Heard::by(completing, rows, consoles, c) {
+        Some(heard) => heard.halting(n, ranks, c),
+        None => console_at(consoles, c),
+    })
 }
 
-// A round of 1 to t + 1, as each console's state after it.
-#[derive(Clone, Copy)]
-struct HaltingRound<'a> {
-    n: u8,
-    ranks: &'a [u8],
-    completing: ConsoleSet,
-    rows: &'a [ConsoleSet],
-    consoles: &'a [Console; MAX_CONSOLES],
-}
-
-impl Source<Console> for HaltingRound<'_> {
-    ghost item = { λ s c. after_halting (min s.n max_consoles) (at s.ranks.now) s.completing s.rows.now (state_of s.consoles.now) c };
-
-    fn item(&self, c: u8) -> Console {
-        if has(self.completing, c) {
-            let n = self.n.min(MAX_CONSOLES as u8);
-            halting(n, self.ranks, item_or(self.rows, c, 0), self.consoles, c)
-        } else {
-            console_at(self.consoles, c)
+impl Heard<'_> {
+    // What the console of index i has after a round that it completes. That n is at most MAX_CONSOLES is asked here, in
+    // `candidates` and in the rig: of a type for such an n, each definition would say which number it holds.
+    fn halting(&self, n: u8, ranks: &[u8], i: u8) -> Console
+        requires { n ≤ max_consoles }
+        ensures { result ≡ halting n (at ranks.now) self.now.row (state_of self.now.consoles.now) i }
+    {
+        let had = console_at(self.consoles, i);
+        let halt = set_of(n, |j| self.halts(i, j));
+        let authors = self.candidates(n, halt);
+        Console {
+            estimate: foremost(n, ranks, authors),
+            halt,
+            ..had
         }
     }
-}
 
-// What the console of index i has after a round that it completes.
-fn halting(
-    n: u8,
-    ranks: &[u8],
-    row: ConsoleSet,
-    consoles: &[Console; MAX_CONSOLES],
-    i: u8,
-) -> Console
-    requires { n ≤ max_consoles }
-    ensures { result ≡ halting n (at ranks.now) row (state_of consoles.now) i }
-{
-    let had = console_at(consoles, i);
-    let halt = set_of(&Halts { row, consoles, i }, n);
-    let authors = candidates(n, row, halt, consoles);
-    Console {
-        estimate: foremost(n, ranks, authors),
-        halt,
-        ..had
+    // Whether the new halt set of i holds j: the old one did, or i did not hear j, or that of j held i.
+    fn halts(&self, i: u8, j: u8) -> bool
+        ensures { result ≡ halts self.now.row (state_of self.now.consoles.now) i j }
+    {
+        has(console_at(self.consoles, i).halt, j)
+            || !has(self.row, j)
+            || has(console_at(self.consoles, j).halt, i)
     }
-}
 
-// The authors that are the estimate of a console in the row and outside the halt set.
-fn candidates(
-    n: u8,
-    row: ConsoleSet,
-    halt: ConsoleSet,
-    consoles: &[Console; MAX_CONSOLES],
-) -> ConsoleSet
-    requires { n ≤ max_consoles }
-    ensures { result ≡ candidates n row halt (state_of consoles.now) }
-{
-    let offered = Offered {
-        n,
-        row,
-        halt,
-        consoles,
-    };
-    set_of(&offered, n)
-}
-
-// Whether the estimate is the author of index a.
-fn is_author(estimate: u8, a: u8) -> bool
-    ensures { result ≡ (estimate == suc a) }
-{
-    estimate != 0 && estimate - 1 == a
-}
-
-// The test that the new halt set of the console of index i holds a console.
-#[derive(Clone, Copy)]
-struct Halts<'a> {
-    row: ConsoleSet,
-    consoles: &'a [Console; MAX_CONSOLES],
-    i: u8,
-}
-
-impl Test for Halts<'_> {
-    ghost passes = { λ s j. halts s.row (state_of s.consoles.now) s.i j };
-
-    fn test(&self, j: u8) -> bool {
-        let heard = has(self.row, j);
-        let halted_me = has(console_at(self.consoles, j).halt, self.i);
-        has(console_at(self.consoles, self.i).halt, j) | !heard | (heard & halted_me)
+    // The authors that are the estimate of a console in the row and outside the halt set.
+    fn candidates(&self, n: u8, halt: ConsoleSet) -> ConsoleSet
+        requires { n ≤ max_consoles }
+        ensures { result ≡ candidates n self.now.row halt (state_of self.now.consoles.now) }
+    {
+        set_of(n, |a| self.is_offered(n, halt, a))
     }
-}
 
-// The test that a console is in the row and outside the halt set, and its estimate is the author.
-#[derive(Clone, Copy)]
-struct Offers<'a> {
-    row: ConsoleSet,
-    halt: ConsoleSet,
-    consoles: &'a [Console; MAX_CONSOLES],
-    author: u8,
-}
-
-impl Test for Offers<'_> {
-    ghost passes = { λ s j. offers s.row s.halt (state_of s.consoles.now) s.author j };
-
-    fn test(&self, j: u8) -> bool {
-        let estimate = console_at(self.consoles, j).estimate;
-        has(self.row, j) & !has(self.halt, j) & is_author(estimate, self.author)
+    // Whether some console offers the author of index a.
+    fn is_offered(&self, n: u8, halt: ConsoleSet, a: u8) -> bool
+        ensures { result ≡ some (offers self.now.row halt (state_of self.now.consoles.now) a) n }
+    {
+        lowest_of(n, |j| self.offers(halt, a, j)).is_some()
     }
-}
 
-// The test that some console offers an author.
-#[derive(Clone, Copy)]
-struct Offered<'a> {
-    n: u8,
-    row: ConsoleSet,
-    halt: ConsoleSet,
-    consoles: &'a [Console; MAX_CONSOLES],
-}
-
-impl Test for Offered<'_> {
-    ghost passes = { λ s a. some (offers s.row s.halt (state_of s.consoles.now) a) s.n };
-
-    fn test(&self, author: u8) -> bool {
-        let offers = Offers {
-            row: self.row,
-            halt: self.halt,
-            consoles: self.consoles,
-            author,
-        };
-        lowest_of(&offers, self.n) != 0
+    // Whether j is in the row and outside the halt set, and its estimate is the author of index a.
+    fn offers(&self, halt: ConsoleSet, a: u8, j: u8) -> bool
+        ensures { result ≡ offers self.now.row halt (state_of self.now.consoles.now) a j }
+    {
+        has(self.row, j) && !has(halt, j) && is_author(console_at(self.consoles, j).estimate, a)
     }
 }

@@ -10,7 +10,7 @@ mod precedence;
 mod tests;
 mod theorems;
 
-pub use consoles::{Cause, Console, opening_consoles};
+pub use consoles::{Cause, Console, console_at, opening_consoles};
 pub use deciding::{after_deciding, entries};
 pub use halting::after_halting;
 pub use theorems::elimination;

@@ -3,49 +3,26 @@ ghost use Rattle.std.specs.Prelude.{◌≡◌};
 ghost use Rattle.rounds.specs.Items.{at};
 ghost use Rattle.front.specs.Searches.{ahead, first, foremost};
 
-use console_sets::{ConsoleSet, Test, has, lowest_of};
+use console_sets::{ConsoleSet, has, lowest_of};
 use rounds::item_or;
 
 // The author of the set that precedes all others of it, 0 if there is none.
 pub(crate) fn foremost(n: u8, ranks: &[u8], authors: ConsoleSet) -> u8
     ensures { result ≡ foremost n (at ranks.now) authors }
 {
-    lowest_of(&First { n, ranks, authors }, n)
+    lowest_of(n, |a| is_first(n, ranks, authors, a)).unwrap_or(0)
 }
 
-// The test that an author is in the set and precedes this one: its rank is lower.
-#[derive(Clone, Copy)]
-struct Ahead<'a> {
-    ranks: &'a [u8],
-    authors: ConsoleSet,
-    author: u8,
+// Whether an author is in the set and none of the set precedes it.
+fn is_first(n: u8, ranks: &[u8], authors: ConsoleSet, a: u8) -> bool
+    ensures { result ≡ first n (at ranks.now) authors a }
+{
+    has(authors, a) && lowest_of(n, |b| is_ahead(ranks, authors, a, b)).is_none()
 }
 
-impl Test for Ahead<'_> {
-    ghost passes = { λ s b. ahead (at s.ranks.now) s.authors s.author b };
-
-    fn test(&self, b: u8) -> bool {
-        has(self.authors, b) & (item_or(self.ranks, b, 0) < item_or(self.ranks, self.author, 0))
-    }
-}
-
-// The test that an author is in the set and none of the set precedes it.
-#[derive(Clone, Copy)]
-struct First<'a> {
-    n: u8,
-    ranks: &'a [u8],
-    authors: ConsoleSet,
-}
-
-impl Test for First<'_> {
-    ghost passes = { λ s a. first s.n (at s.ranks.now) s.authors a };
-
-    fn test(&self, author: u8) -> bool {
-        let ahead = Ahead {
-            ranks: self.ranks,
-            authors: self.authors,
-            author,
-        };
-        has(self.authors, author) & (lowest_of(&ahead, self.n) == 0)
-    }
+// Whether the author b is in the set and precedes the author a: its rank is lower.
+fn is_ahead(ranks: &[u8], authors: ConsoleSet, a: u8, b: u8) -> bool
+    ensures { result ≡ ahead (at ranks.now) authors a b }
+{
+    has(authors, b) && item_or(ranks, b, 0) < item_or(ranks, a, 0)
 }

@@ -91,3 +91,12 @@ fn halt_sets_of_t_and_more(rt: HostRuntime) {
     assert_eq!(rt; entered[2], 4);
     assert_eq!(rt; Cause::Front.word(), "front");
 }
+
+// A console of an array, and beyond its last one what has nothing.
+#[test]
+fn consoles_by_index(rt: HostRuntime) {
+    let opened = opening_consoles(5);
+    assert_eq!(rt; console_at(&opened, 2), undecided(3, 0));
+    assert_eq!(rt; console_at(&opened, 16), undecided(0, 0));
+    assert_eq!(rt; Console::fresh(2), undecided(2, 0));
+}

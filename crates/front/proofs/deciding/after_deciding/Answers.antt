@@ -1,14 +1,12 @@
-use Rattle.std.proofs.Common.{◌∙◌, arith}
-use Rattle.console_sets.specs.Bound.{max_consoles}
+use Rattle.std.proofs.Common.{rules, arith}
 use Rattle.front.specs.Consoles.{fresh, state_of}
 use Rattle.front.specs.Deciding.{after_deciding}
-use Rattle.front.proofs.Filled.{every, outside, blank_beyond}
+use Rattle.front.proofs.Filled.{each_state}
 use Rattle.front.proofs.deciding.after_deciding.Goals as goal
 
 pub returns : goal.returns
 unfolding after_deciding
 returns c =
-    let s = state_of c.args.consoles.now in
-    every c.array_of.result (after_deciding c.args.n c.args.t c.args.completing c.args.rows.now s)
-    max_consoles c.fresh.result (fresh 0) c.fresh.ensures c.array_of.ensures.below c.array_of.ensures.beyond
-    (λ i l. outside max_consoles c.args.completing i _ (s i) (omega arith) l ∙ blank_beyond max_consoles c.args.consoles.now (fresh 0) i (omega arith) l)
+    let after = after_deciding c.args.n c.args.t c.args.completing c.args.rows.now (state_of c.args.consoles.now) in
+    each_state c.array_of.result c.args.consoles.now c.args.completing _ (omega arith) (omega arith)
+    (c.array_of.ensures.below after (λ i l x h. search rules) (fresh 0)) (c.array_of.ensures.beyond (fresh 0))
