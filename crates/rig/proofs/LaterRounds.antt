@@ -26,7 +26,6 @@ module _ (n k completing : ℕ) (rows : List ℕ) (verdicts : ℕ → ℕ) (s : 
 
   -- a decision stays
   pub stays : (s c).decision ≢ 0 → after_later n k completing rows verdicts s c ≡ s c
-  unfolding later
   stays had =
       elim (cases_Bool (member completing c)) [
         | inr m ↦ out m
@@ -35,7 +34,6 @@ module _ (n k completing : ℕ) (rows : List ℕ) (verdicts : ℕ → ℕ) (s : 
 
   -- what one who completes the round has then
   turn : member completing c ≡ true → From s (verdicts c) (after_later n k completing rows verdicts s c).decision
-  unfolding later
   turn m =
       let row = at rows c in
       let test : ℕ → Bool = tells row s in

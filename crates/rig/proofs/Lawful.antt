@@ -4,8 +4,9 @@ use Rattle.std.proofs.lemmas.Bool.{cases_Bool, cases_lt, and_from, and_left, and
 use Rattle.console_sets.specs.Sets.{count, member, one}
 use Rattle.console_sets.proofs.Counting.{count_none, count_more, count_empty}
 use Rattle.console_sets.proofs.Digits.{member_below}
-use Rattle.orders.specs.declared.Place.{Place}
-use Rattle.orders.specs.Places.{Lawful as Ordered, is_before}
+use Rattle.std.specs.declared.cmp.Ordering.{Ordering}
+use Rattle.orders.specs.Orders.{Lawful as Ordered}
+use Rattle.std.specs.Ordering.{is_lt}
 use Rattle.orders.specs.Ranks.{takes_part}
 use Rattle.orders.proofs.Ranked.{rank_apart, not_before}
 use Rattle.rounds.specs.Items.{at}
@@ -210,7 +211,7 @@ module _ (bound : ℕ) (o : Opening) where
 -- ---- a press
 
 -- an order's ranks are an opening that the front takes
-pub opens_with : (n t ran : ℕ) (place : ℕ → ℕ → Place) → 2 * t < n → ran < 2 ^ n → Ordered place → Opened (opening n t ran place)
+pub opens_with : (n t ran : ℕ) (place : ℕ → ℕ → Ordering) → 2 * t < n → ran < 2 ^ n → Ordered place → Opened (opening n t ran place)
 opens_with n t ran place few within ordered = record {
   few = few;
   within = within;
@@ -263,7 +264,7 @@ module _ (n t bound : ℕ) (press : Press) (ordered : Ordered press.place) (open
         decides = has;
         exactly = w.exactly;
         none_before = λ d md.
-            ap (λ (x : ℕ). is_before (press.place d x)) less
+            ap (λ (x : ℕ). is_lt (press.place d x)) less
             ∙ not_before n press.ran press.place ordered d a.index (part d (ran o opens (rounds_of (first_rounds (t + 2) press.played)) d md)) (part a.index a.ran)
             (omega (arith, ap o.rank same, w.foremost d md));
       }

@@ -4,7 +4,7 @@ use Rattle.std.proofs.lemmas.Bool.{cases_Bool, cases_eq, cases_lt, both_ways, co
 use Rattle.console_sets.specs.Bound.{max_consoles}
 use Rattle.console_sets.specs.Sets.{member}
 use Rattle.console_sets.proofs.Digits.{member_above}
-use Rattle.orders.specs.Places.{Lawful as Ordered}
+use Rattle.orders.specs.Orders.{Lawful as Ordered}
 use Rattle.rounds.specs.Items.{at}
 use Rattle.rounds.specs.Refusals.{refused}
 use Rattle.rounds.specs.Rounds.{completing, steady_round}

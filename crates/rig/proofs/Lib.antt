@@ -3,7 +3,6 @@ pub mod Good
 pub mod Lawful
 pub mod Led
 pub mod Willing
-pub mod Answering
 pub mod Handing
 pub mod Turning
 pub mod Stepping

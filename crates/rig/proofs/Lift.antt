@@ -4,8 +4,8 @@ use Rattle.std.proofs.Common.{◌≡◌, ℕ, suc, ◌+◌, ◌<◌, ◌≤◌, 
 use mathlib.Core.Path.{fun_ext}
 use Rattle.std.proofs.lemmas.List.{get_or-set_same, get_or-set_other}
 use Rattle.std.proofs.lemmas.Bool.{both_ways, and_parts}
-use Rattle.orders.specs.declared.Place.{Place}
-use Rattle.orders.specs.Places.{Lawful as Ordered}
+use Rattle.std.specs.declared.cmp.Ordering.{Ordering}
+use Rattle.orders.specs.Orders.{Lawful as Ordered}
 use Rattle.orders.specs.Ranks.{rank}
 use Rattle.rounds.specs.Items.{at}
 use Rattle.rounds.specs.Rounds.{completing}
@@ -52,10 +52,10 @@ module _ {bound : ℕ} {s : Setting} {cs : List Answered} {show : Show} {m : Mea
     {panel : Panel} {book : Book} (st : Stands s show panel book) where
   -- ---- press
 
-  pub press_same : (count : ℕ) (place : ℕ → ℕ → Place) → press_refusal panel book count ≡ refusal s show (press count place)
+  pub press_same : (count : ℕ) (place : ℕ → ℕ → Ordering) → press_refusal panel book count ≡ refusal s show (press count place)
   press_same count place = λ k. refused (st.is_open k) PressOpen (refused (leb max_pages (st.filled k)) BookFull (refused (not (eqb count (st.for_n k))) ProposalCount None))
 
-  pub press_stands : (count : ℕ) (place : ℕ → ℕ → Place) (panel' : Panel) → press_refusal panel book count ≡ None → Pressed panel book place panel'
+  pub press_stands : (count : ℕ) (place : ℕ → ℕ → Ordering) (panel' : Panel) → press_refusal panel book count ≡ None → Pressed panel book place panel'
       → Stands s (pressed s show place) panel' book
   press_stands count place panel' ok w =
       let shut = sym st.is_open ∙ (past panel.open PressOpen _ ok).0 in
@@ -75,7 +75,7 @@ module _ {bound : ℕ} {s : Setting} {cs : List Answered} {show : Show} {m : Mea
         pages = subst (λ (ps : List Press). Pages s ps book.pages) all st.pages;
       }
 
-  pub press_led : (count : ℕ) (place : ℕ → ℕ → Place) → press_refusal panel book count ≡ None → Ordered place
+  pub press_led : (count : ℕ) (place : ℕ → ℕ → Ordering) → press_refusal panel book count ≡ None → Ordered place
       → Led bound s (record { call = press count place; answer = None } ∷ cs) (pressed s show place) m
   press_led count place ok o = press_done count place (sym (press_same count place) ∙ ok) o led
 

@@ -1,8 +1,9 @@
 -- One call of any kind, from what press, round and close say.
-use Rattle.std.proofs.Common.{◌≡◌, ℕ, List, None, Ok, Err, Option, Result, sym, ap, subst, MatchResult}
+use Rattle.std.proofs.Common.{◌≡◌, ℕ, List, Some, None, Ok, Err, Option, Result, sym, ap, subst, MatchResult}
 use Rattle.std.specs.Result.{result_err}
-use Rattle.orders.specs.declared.Place.{Place}
+use Rattle.std.specs.declared.cmp.Ordering.{Ordering}
 use Rattle.rounds.specs.Refusals.{answer, Answers}
+use Rattle.rounds.proofs.Accepted.{accepted}
 use Rattle.rounds.specs.declared.Refusal.{Refusal}
 use Rattle.back_end.specs.Meaning.{Meaning}
 use Rattle.rig.specs.declared.page.End.{End}
@@ -10,7 +11,11 @@ use Rattle.rig.specs.declared.rig.Rig.{Rig}
 use Rattle.rig.specs.Shows.{Asked, press, round, close}
 use Rattle.rig.specs.Steps.{press_refusal, turn_refusal, close_refusal}
 use Rattle.rig.specs.Calls.{PressLeaves, RoundLeaves, CloseLeaves, DoneBy}
-use Rattle.rig.proofs.Answering.{accepted, refused_by}
+
+-- an answer that is an error gives the refusal
+refused_by : (o : Option Refusal) (e : Refusal) → Err e ≡ answer o → o ≡ Some e
+refused_by None e h = cc
+refused_by (Some x) e h = cc
 
 -- the same of an equal call and an equal answer
 pub moved : {B : Type 0} (meaning : B → Meaning) (rig rig' : Rig B) {call call' : Asked} {x y : Option Refusal} → call ≡ call' → x ≡ y
@@ -23,7 +28,7 @@ module _ {B : Type 0} (meaning : B → Meaning) (rig rig' : Rig B) where
   kept : rig' ≡ rig → (rig'.panel ≡ rig.panel) × (rig'.book ≡ rig.book) × (meaning rig'.back ≡ meaning rig.back)
   kept e = (ap (λ (x : Rig B). x.panel) e, ap (λ (x : Rig B). x.book) e, ap (λ (x : Rig B). meaning x.back) e)
 
-  pub press_done : (count : ℕ) (place : ℕ → ℕ → Place) → press_refusal rig.panel rig.book count ≡ None → PressLeaves place rig rig'
+  pub press_done : (count : ℕ) (place : ℕ → ℕ → Ordering) → press_refusal rig.panel rig.book count ≡ None → PressLeaves place rig rig'
       → DoneBy meaning (press count place) None rig rig'
   press_done count place e h = record { answered = sym e; left = record { pressed = h.pressed; same_book = h.same_book; same_back = ap meaning h.same_back } }
 

@@ -2,8 +2,8 @@
 use Rattle.std.proofs.Common.{◌≡◌, ℕ, ◌+◌, ◌<◌, ◌≤◌, Bool, true, false, not, ◌&&◌, eqb, ◌⊎◌, List, [], ◌∷◌, ◌++◌, reverse, length, get_or, set, Some, None, Option, sym, refl, ap, ◌∙◌, subst, inl, inr, arith}
 use Rattle.std.proofs.lemmas.List.{reverse-append, length-append, get_or-set_same, get_or-set_other, get_or_push, get_or_append_left}
 use Rattle.std.proofs.lemmas.Bool.{cases_eq, cases_lt, cases_Bool}
-use Rattle.orders.specs.declared.Place.{Place}
-use Rattle.orders.specs.Places.{Lawful as Ordered}
+use Rattle.std.specs.declared.cmp.Ordering.{Ordering}
+use Rattle.orders.specs.Orders.{Lawful as Ordered}
 use Rattle.rounds.specs.Refusals.{refused}
 use Rattle.rounds.specs.declared.Refusal.{Refusal}
 use Rattle.rounds.specs.declared.Refusal.TheVariants.{PressOpen, WrongTicket}
@@ -203,7 +203,7 @@ performed asked i =
     }
 
 -- what each call brings with it, from the laws of its order and of its back end
-pub brings : {P : Type 0} (places : P → P → Place) → Ordered places → (bound : ℕ) (call : Call P) (m : Meaning) → Agrees m → Settles bound m → Brings bound (asked places call) m
+pub brings : {P : Type 0} (places : P → P → Ordering) → Ordered places → (bound : ℕ) (call : Call P) (m : Meaning) → Agrees m → Settles bound m → Brings bound (asked places call) m
 brings places laws bound (Press' proposals) m ag se = lawful_between places laws proposals.now
 brings places laws bound (Round' rig number falls rows) m ag se = (ag, se)
 brings places laws bound (Close' rig number) m ag se = tt

@@ -1,25 +1,15 @@
--- The refusal of a round by its parts, and that only the verdicts of consoles that there are matter.
-use Rattle.std.proofs.Common.{◌≡◌, ℕ, ◌+◌, ◌^◌, ◌<◌, Bool, true, false, cond, not, leb, List, Option, sym, refl, ap, ◌∙◌, inl, inr}
-use Rattle.std.proofs.lemmas.Bool.{cond-false, cases_lt}
+-- Only the verdicts of consoles that there are matter to a round.
+use Rattle.std.proofs.Common.{◌≡◌, ℕ, ◌+◌, ◌^◌, ◌<◌, Bool, true, false, cond, leb, List, sym, refl, ap, ◌∙◌, inl, inr}
+use Rattle.std.proofs.lemmas.Bool.{cases_lt}
 use Rattle.console_sets.specs.Bound.{max_consoles}
 use Rattle.console_sets.specs.Sets.{member}
 use Rattle.rounds.specs.Items.{at}
-use Rattle.rounds.specs.Refusals.{either}
-use Rattle.rounds.specs.Checks.{round_refusal}
-use Rattle.rounds.specs.declared.Refusal.{Refusal}
-use Rattle.back_end.specs.Meaning.{Meaning}
 use Rattle.front.specs.Consoles.{State, state_of}
 use Rattle.front.specs.Runs as front
 use Rattle.front.proofs.Filled.{outside}
 use Rattle.rig.specs.declared.panel.Panel.{Panel}
 use Rattle.rig.specs.Later.{later, after_later}
-use Rattle.rig.specs.Steps.{fits, opening_of, after_round, back_refusal, turn_refusal}
-
-module _ (panel : Panel) (m : Meaning) (rig press falls : ℕ) (rows : List ℕ) (shown : fits panel rig press ≡ true) where
-  -- the own checks come first
-  pub turn_checked : (o : Option Refusal) → round_refusal panel.n panel.t panel.running panel.rounds falls rows ≡ o
-      → turn_refusal panel m rig press falls rows ≡ either o (back_refusal panel falls rows m)
-  turn_checked o e = cond-false _ _ _ (ap not shown) ∙ ap (λ (x : Option Refusal). either x (back_refusal panel falls rows m)) e
+use Rattle.rig.specs.Steps.{opening_of, after_round}
 
 later_alike : (n k completing : ℕ) (rows : List ℕ) (v w : ℕ → ℕ) (s : State) → completing < 2 ^ max_consoles
     → ((c : ℕ) → c < max_consoles → v c ≡ w c) → (c : ℕ) → after_later n k completing rows v s c ≡ after_later n k completing rows w s c

@@ -1,6 +1,6 @@
 -- The calls of a rig: what each is asked in plain values, and what it leaves of the panel, the book and the back end.
 use Rattle.std.specs.Prelude.{◌≡◌, ℕ, ◌-◌, ◌||◌, List, length, Some, None, Option, ◌==◌, nat_lt, slice_index_or}
-use Rattle.orders.specs.declared.Place.{Place}
+use Rattle.std.specs.declared.cmp.Ordering.{Ordering}
 use Rattle.orders.specs.Ranks.{between}
 use Rattle.rounds.specs.Refusals.{refused}
 use Rattle.rounds.specs.declared.Refusal.{Refusal}
@@ -16,14 +16,14 @@ use Rattle.rig.specs.Shows.{Asked, press, round, close, blank_page}
 use Rattle.rig.specs.Steps.{press_refusal, Pressed, turn_refusal, told, Advanced, Handed, close_refusal, Closed}
 
 -- a call in plain values
-abbrev pub asked : {P : Type 0} → (P → P → Place) → Call P → Asked
+abbrev pub asked : {P : Type 0} → (P → P → Ordering) → Call P → Asked
 asked places (Press proposals) = press (length proposals.now) (between places proposals.now)
 asked places (Round rig number falls rows) = round rig number (record { falls = falls; rows = rows.now })
 asked places (Close rig number) = close rig number
 
 -- ---- what an accepted call leaves
 
-pub record AfterPress {B : Type 0} (place : ℕ → ℕ → Place) (panel : Panel) (book : Book) (back : B) (panel' : Panel) (book' : Book) (back' : B) : Type 0 where
+pub record AfterPress {B : Type 0} (place : ℕ → ℕ → Ordering) (panel : Panel) (book : Book) (back : B) (panel' : Panel) (book' : Book) (back' : B) : Type 0 where
   pub pressed : Pressed panel book place panel'
   pub same_book : book' ≡ book
   pub same_back : back' ≡ back
@@ -39,7 +39,7 @@ pub record AfterClose {B : Type 0} (panel : Panel) (book : Book) (back : B) (pan
 
 -- ---- the same of a rig before and after
 
-abbrev pub PressLeaves : {B : Type 0} → (ℕ → ℕ → Place) → Rig B → Rig B → Type 0
+abbrev pub PressLeaves : {B : Type 0} → (ℕ → ℕ → Ordering) → Rig B → Rig B → Type 0
 PressLeaves place rig rig' = AfterPress place rig.panel rig.book rig.back rig'.panel rig'.book rig'.back
 
 abbrev pub RoundLeaves : {B : Type 0} → (B → Meaning) → ℕ → List ℕ → Rig B → Rig B → Type 0

@@ -18,7 +18,7 @@ abbrev pub tells : ℕ → State → ℕ → Bool
 tells row s j = member row j && not ((s j).decision == 0)
 
 -- what i has after round k: its decision if it had one; else that of the lowest console in its row that had one; else its verdict if that is not 0
-unfoldable pub later : ℕ → ℕ → ℕ → ℕ → State → ℕ → Console
+abbrev pub later : ℕ → ℕ → ℕ → ℕ → State → ℕ → Console
 later n k row verdict s i =
     cond (not ((s i).decision == 0)) (s i)
     (cond (some (tells row s) n) (decided (s i) (s (lowest (tells row s) n - 1)).decision k Relay)

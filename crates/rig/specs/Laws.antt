@@ -1,7 +1,7 @@
 -- What holds of every press, whoever falls and whatever is lost in its accepted rounds, for every order of proposals and every back end that keeps its laws.
 use Rattle.std.specs.Prelude.{◌≡◌, ℕ, suc, ◌+◌, ◌-◌, ◌<◌, ◌≤◌, Bool, true, false, ◌≢◌, length, nat_eq}
 use Rattle.console_sets.specs.Sets.{count, member}
-use Rattle.orders.specs.Places.{is_before}
+use Rattle.std.specs.Ordering.{is_lt}
 use Rattle.front.specs.Consoles.{State}
 use Rattle.front.specs.Searches.{some}
 use Rattle.rig.specs.Later.{lacks}
@@ -24,7 +24,7 @@ pub record OnTime (n t : ℕ) (press : Press) (c : ℕ) : Type 0 where
   pub decides : (consoles n t press c).decision ≢ 0
   pub exactly : (consoles n t press c).round ≡ t + 2
   -- and the own proposal of no console that completes that round stands before the decided one
-  pub none_before : (d : ℕ) → member (completing_first (t + 2) n t press) d ≡ true → is_before (press.place d ((consoles n t press c).decision - 1)) ≡ false
+  pub none_before : (d : ℕ) → member (completing_first (t + 2) n t press) d ≡ true → is_lt (press.place d ((consoles n t press c).decision - 1)) ≡ false
 
 -- a press of n consoles of which t may fall, with a back end of this bound
 pub record Lawful (n t bound : ℕ) (press : Press) : Type 0 where

@@ -1,7 +1,7 @@
 -- The history of a press: who ran when it opened, how its proposals compare, and its accepted rounds, the latest first, each with the verdicts that the
 -- back end then has. All else is a function of it.
 use Rattle.std.specs.Prelude.{◌≡◌, ℕ, zero, suc, ◌+◌, ◌-◌, true, cond, ◌&&◌, List, [], ◌∷◌, map, length, drop, nat_le, nat_lt}
-use Rattle.orders.specs.declared.Place.{Place}
+use Rattle.std.specs.declared.cmp.Ordering.{Ordering}
 use Rattle.orders.specs.Ranks.{rank}
 use Rattle.rounds.specs.Items.{at}
 use Rattle.rounds.specs.Rounds.{steady_round}
@@ -20,12 +20,12 @@ pub record Press : Type 0 where
   -- who ran when it opened
   pub ran : ℕ
   -- where the proposal of one console stands to that of another
-  pub place : ℕ → ℕ → Place
+  pub place : ℕ → ℕ → Ordering
   -- the accepted rounds, the latest first
   pub played : List Played
 
 -- what the front needs to know of the opening: ranks tell who precedes whom
-abbrev pub opening : ℕ → ℕ → ℕ → (ℕ → ℕ → Place) → Opening
+abbrev pub opening : ℕ → ℕ → ℕ → (ℕ → ℕ → Ordering) → Opening
 opening n t ran place = record { n = n; t = t; ran = ran; rank = rank n ran place }
 
 -- the rounds without the verdicts

@@ -1,8 +1,8 @@
 -- A whole show: the strings of calls that lead from a rig that was just set up to a history, and what a rig is by its history.
 use Rattle.std.specs.Prelude.{◌≡◌, ℕ, suc, ◌+◌, ◌<◌, ◌≤◌, Bool, true, false, not, ◌&&◌, List, [], ◌∷◌, ◌++◌, reverse, length, Some, None, Option, ◌==◌, nat_le, slice_index_or}
 use Rattle.console_sets.specs.Sets.{all}
-use Rattle.orders.specs.declared.Place.{Place}
-use Rattle.orders.specs.Places.{Lawful as Ordered}
+use Rattle.std.specs.declared.cmp.Ordering.{Ordering}
+use Rattle.orders.specs.Orders.{Lawful as Ordered}
 use Rattle.rounds.specs.Items.{at}
 use Rattle.rounds.specs.Refusals.{refused}
 use Rattle.rounds.specs.Checks.{size_refusal, round_refusal}
@@ -39,7 +39,7 @@ first_day = record { presses = []; open_now = false }
 
 -- what is asked of a rig, in plain values: to press with so many proposals that compare so; to play a round or to close, with a ticket's numbers
 pub data Asked : Type 0 where
-  press : ℕ → (ℕ → ℕ → Place) → Asked
+  press : ℕ → (ℕ → ℕ → Ordering) → Asked
   round : ℕ → ℕ → Round → Asked
   close : ℕ → ℕ → Asked
 
@@ -138,7 +138,7 @@ refusal s show (close rig number) = refused (not (shows s show rig number)) Wron
 
 -- ---- what accepted calls add to the history
 
-abbrev pub pressed : Setting → Show → (ℕ → ℕ → Place) → Show
+abbrev pub pressed : Setting → Show → (ℕ → ℕ → Ordering) → Show
 pressed s show place = record { presses = record { ran = running_now s show.presses; place = place; played = [] } ∷ show.presses; open_now = true }
 
 -- the press with one round more
@@ -164,7 +164,7 @@ pub data Led (bound : ℕ) (s : Setting) : List Answered → Show → Meaning �
   set_up : {m : Meaning} → size_refusal s.n s.t ≡ None → Made s.n s.t m → Led bound s [] first_day m
   not_done : {cs : List Answered} {show : Show} {m : Meaning} (c : Asked) (e : Refusal) → refusal s show c ≡ Some e
       → Led bound s cs show m → Led bound s (record { call = c; answer = Some e } ∷ cs) show m
-  press_done : {cs : List Answered} {show : Show} {m : Meaning} (count : ℕ) (place : ℕ → ℕ → Place) → refusal s show (press count place) ≡ None
+  press_done : {cs : List Answered} {show : Show} {m : Meaning} (count : ℕ) (place : ℕ → ℕ → Ordering) → refusal s show (press count place) ≡ None
       → Ordered place → Led bound s cs show m → Led bound s (record { call = press count place; answer = None } ∷ cs) (pressed s show place) m
   round_done : {cs : List Answered} {ps : List Press} {p : Press} {m m' : Meaning} (rig number : ℕ) (r : Played)
       → refusal s (record { presses = p ∷ ps; open_now = true }) (round rig number r.round) ≡ None

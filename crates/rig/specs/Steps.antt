@@ -2,7 +2,7 @@
 use Rattle.std.specs.Prelude.{◌≡◌, ℕ, ◌+◌, ◌<◌, Bool, true, false, cond, not, ◌&&◌, List, map, None, Option, ◌==◌, nat_le, nat_lt, slice_set}
 use Rattle.std.specs.List.{range_with_len}
 use Rattle.console_sets.specs.Sets.{all}
-use Rattle.orders.specs.declared.Place.{Place}
+use Rattle.std.specs.declared.cmp.Ordering.{Ordering}
 use Rattle.orders.specs.Ranks.{rank}
 use Rattle.rounds.specs.Items.{at}
 use Rattle.rounds.specs.Rounds.{completing}
@@ -49,7 +49,7 @@ press_refusal panel book count =
     None))
 
 -- the panel after a press whose proposals compare as `place` says
-pub record Pressed (panel : Panel) (book : Book) (place : ℕ → ℕ → Place) (panel' : Panel) : Type 0 where
+pub record Pressed (panel : Panel) (book : Book) (place : ℕ → ℕ → Ordering) (panel' : Panel) : Type 0 where
   pub is_number : panel'.number ≡ panel.number
   pub for_n : panel'.n ≡ panel.n
   pub for_t : panel'.t ≡ panel.t

@@ -9,9 +9,9 @@ ghost use Rattle.rig.specs.Steps.{entry_list, back_refusal, told, Handed};
 
 use crate::panel::Panel;
 use back_end::BackEnd;
-use console_sets::{ConsoleSet, MAX_CONSOLES, difference};
+use console_sets::{ConsoleSet, MAX_CONSOLES, array_of, difference};
 use front::entries;
-use rounds::{Refusal, Source, array_of};
+use rounds::Refusal;
 
 // Asks nothing before round t + 2, then to start, then the same round. Answers each console's verdict, 0 up to round t + 2.
 pub(crate) fn hand_on<B: BackEnd>(
@@ -54,25 +54,7 @@ fn start<B: BackEnd>(
 fn all_verdicts<B: BackEnd>(back: &B) -> [u8; MAX_CONSOLES]
     ensures { (c : ℕ) → c < max_consoles → at result c ≡ (if nat_lt c (B.meaning back.now).n then at (B.meaning back.now).verdicts c else 0) }
 {
-    array_of(&Verdicts { back }, 0)
-}
-
-// A back end, as each console's verdict.
-#[derive(Drop)]
-struct Verdicts<'a, B> {
-    back: &'a B,
-}
-
-impl<B: BackEnd> Source<u8> for Verdicts<'_, B> {
-    ghost item = { λ s c. (if nat_lt c max_consoles then (if nat_lt c (B.meaning s.back.now).n then at (B.meaning s.back.now).verdicts c else 0) else 0) };
-
-    fn item(&self, c: u8) -> u8 {
-        if (c as usize) < MAX_CONSOLES {
-            verdict_at(self.back, c)
-        } else {
-            0
-        }
-    }
+    array_of(|c| verdict_at(back, c))
 }
 
 // The verdict of the console of index c, 0 if the back end knows no such console.
@@ -80,8 +62,5 @@ fn verdict_at<B: BackEnd>(back: &B, c: u8) -> u8
     requires { c < max_consoles }
     ensures { result ≡ (if nat_lt c (B.meaning back.now).n then at (B.meaning back.now).verdicts c else 0) }
 {
-    match back.verdict(c + 1) {
-        Ok(verdict) => verdict,
-        Err(_) => 0,
-    }
+    back.verdict(c + 1).unwrap_or(0)
 }

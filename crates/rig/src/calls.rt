@@ -7,7 +7,8 @@ pub struct Ticket {
     pub(crate) press: u32,
 }
 
-// What is asked of a rig, with the numbers of the ticket that is shown.
+// What is asked of a rig, with the numbers of the ticket that is shown. They are two plain numbers: a struct of them, which
+// can be copied, would be a second kind of ticket.
 #[derive(Drop)]
 pub enum Call<'a, P> {
     Press(&'a [P]),

@@ -1,17 +1,31 @@
 // Whether a ticket fits, how a press ends, and its page in the book.
-ghost use Rattle.std.specs.Prelude.{◌≡◌, ◌+◌, ◌<◌, slice_set};
+ghost use Rattle.std.specs.Prelude.{◌≡◌, ◌+◌, ◌<◌, true, slice_set, OnOk};
+ghost use Rattle.rounds.specs.Refusals.{answer};
 ghost use Rattle.rig.specs.Bound.{max_pages};
-ghost use Rattle.rig.specs.Steps.{fits, end_now, page_now};
+ghost use Rattle.rig.specs.Steps.{fits, close_refusal, end_now, page_now};
 
 use crate::later::all_decided;
 use crate::page::{End, Page};
 use crate::panel::{Book, MAX_PAGES, Panel};
+use rounds::Refusal;
 
 // Whether a ticket's numbers are those of the open press.
-pub(crate) fn fits(panel: &Panel, rig: u16, press: u32) -> bool
+fn fits(panel: &Panel, rig: u16, press: u32) -> bool
     ensures { result ≡ fits panel.now rig press }
 {
     panel.open & (rig == panel.number) & (press == panel.press)
+}
+
+// Refuses a ticket whose numbers are not those of the open press: 7.
+pub(crate) fn check_ticket(panel: &Panel, rig: u16, press: u32) -> Result<(), Refusal>
+    ensures answers { result ≡ answer (close_refusal panel.now rig press) }
+    ensures fits { OnOk result (fits panel.now rig press ≡ true) }
+{
+    if fits(panel, rig, press) {
+        Ok(())
+    } else {
+        Err(Refusal::WrongTicket)
+    }
 }
 
 // The end of the panel's press: settled if every running console has a decision.

@@ -5,11 +5,10 @@ ghost use Rattle.orders.specs.Ranks.{between};
 ghost use Rattle.rig.specs.declared.panel.Book.{Book};
 ghost use Rattle.rig.specs.Steps.{SetUp, Pressed};
 
-use crate::later::nothing;
 use crate::page::{End, Page};
 use crate::panel::{Book, MAX_PAGES, Panel};
 use console_sets::{MAX_CONSOLES, all_of};
-use front::opening_consoles;
+use front::{Console, opening_consoles};
 use orders::{Order, ranks};
 
 // The panel of a rig that is set up.
@@ -38,7 +37,7 @@ pub(crate) fn empty_book() -> Book
         press: 0,
         end: End::Dropped,
         rounds: 0,
-        consoles: [nothing(); MAX_CONSOLES],
+        consoles: [Console::fresh(0); MAX_CONSOLES],
     };
     Book {
         pages: [blank; MAX_PAGES],

@@ -7,7 +7,7 @@ use crate::page::Page;
 use console_sets::{ConsoleSet, MAX_CONSOLES};
 use front::Console;
 
-// The most pages of a book.
+// The most pages of a book. `specs/Bound` says the number again, so that another one here is refused.
 pub const MAX_PAGES: usize = 64;
 
 // The setting, who runs, and the latest press with what each console has in it.
@@ -28,6 +28,7 @@ pub struct Panel {
 }
 
 // The pages of closed presses, the page of press p at the index p - 1.
+// An array with its count beside it: a `Vec` would allocate, and no call of a rig does.
 #[derive(Drop)]
 pub struct Book {
     pub(crate) pages: [Page; MAX_PAGES],

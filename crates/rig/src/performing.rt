@@ -17,9 +17,10 @@ impl<B: BackEnd> Rig<B> {
     // string leads to a history, the rig is that of the history, and every press of it is lawful.
     pub fn perform<P: Order>(&mut self, calls: &[Call<'_, P>], answers: &mut [Option<Refusal>])
         ensures { (s : Setting) (cs : List Answered) (show : Show)
-            → Led B.limit s cs show (B.meaning self.old.back) → Stands s show self.old.panel self.old.book
-            → Performed B.limit s cs show (map (asked P.places) calls.now) self.new.panel self.new.book (B.meaning self.new.back) answers.old answers.new }
+            → Led B.BOUND s cs show (B.meaning self.old.back) → Stands s show self.old.panel self.old.book
+            → Performed B.BOUND s cs show (map (asked P.places) calls.now) self.new.panel self.new.book (B.meaning self.new.back) answers.old answers.new }
     {
+        // Not a zip with the answers: a call beyond their room is performed too.
         for (i, call) in calls.iter().enumerate() {
             let answer = self.step(call);
             write_down(answers, i, answer);
@@ -35,7 +36,7 @@ pub fn whole_show<B: BackEnd, P: Order>(
     calls: &[Call<'_, P>],
     answers: &mut [Option<Refusal>],
 ) -> Result<Rig<B>, Refusal>
-    ensures performed { Answers result (make_refusal (B.serves n t) n t) (λ rig. Performed B.limit (record { number = number; n = n; t = t }) [] first_day (map (asked P.places) calls.now) rig.panel rig.book (B.meaning rig.back) answers.old answers.new) }
+    ensures performed { Answers result (make_refusal (B.serves n t) n t) (λ rig. Performed B.BOUND (record { number = number; n = n; t = t }) [] first_day (map (asked P.places) calls.now) rig.panel rig.book (B.meaning rig.back) answers.old answers.new) }
     ensures kept { OnErr result (answers.new ≡ answers.old) }
 {
     let mut rig = Rig::<B>::set_up(number, n, t)?;

@@ -8,7 +8,7 @@ ghost use Rattle.rig.specs.Steps.{close_refusal};
 ghost use Rattle.rig.specs.Calls.{page_refusal, page_at};
 
 use crate::calls::Ticket;
-use crate::closing::fits;
+use crate::closing::check_ticket;
 use crate::later::all_decided;
 use crate::page::Page;
 use crate::rig::Rig;
@@ -21,9 +21,7 @@ impl<B: BackEnd> Rig<B> {
     pub fn settled(&self, ticket: &Ticket) -> Result<bool, Refusal>
         ensures { Answers result (close_refusal self.now.panel ticket.now.rig ticket.now.press) (λ settled. settled ≡ all_decided self.now.panel.n self.now.panel.running (state_of self.now.panel.consoles)) }
     {
-        if !fits(&self.panel, ticket.rig, ticket.press) {
-            return Err(Refusal::WrongTicket);
-        }
+        check_ticket(&self.panel, ticket.rig, ticket.press)?;
         Ok(all_decided(self.panel.n, self.panel.running, &self.panel.consoles))
     }
 

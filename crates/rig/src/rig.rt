@@ -10,7 +10,7 @@ ghost use Rattle.rig.specs.Steps.{SetUp, press_refusal, turn_refusal, close_refu
 use crate::advancing::advanced;
 use crate::back::hand_on;
 use crate::calls::{Call, Ticket};
-use crate::closing::{add, fits, page_of};
+use crate::closing::{add, check_ticket, page_of};
 use crate::opening::{empty_book, first_panel, pressed};
 use crate::page::End;
 use crate::panel::{Book, MAX_PAGES, Panel};
@@ -85,9 +85,7 @@ impl<B: BackEnd> Rig<B> {
         ensures answers { result ≡ answer (turn_refusal self.old.panel (B.meaning self.old.back) rig press falls rows.now) }
         ensures leaves { MatchResult result (λ _. RoundLeaves B.meaning falls rows.now self.old self.new) (λ _. self.new ≡ self.old) }
     {
-        if !fits(&self.panel, rig, press) {
-            return Err(Refusal::WrongTicket);
-        }
+        check_ticket(&self.panel, rig, press)?;
         check_round(
             self.panel.n,
             self.panel.t,
@@ -111,6 +109,7 @@ impl<B: BackEnd> Rig<B> {
                 let Ticket { rig: _, press: _ } = ticket;
                 Ok(end)
             }
+            // The ticket goes back, so that `?` would not do.
             Err(refusal) => Err((refusal, ticket)),
         }
     }
@@ -120,9 +119,7 @@ impl<B: BackEnd> Rig<B> {
         ensures answers { Answers result (close_refusal self.old.panel rig press) (λ end. end ≡ end_now self.old.panel) }
         ensures leaves { MatchResult result (λ _. CloseLeaves self.old self.new) (λ _. self.new ≡ self.old) }
     {
-        if !fits(&self.panel, rig, press) {
-            return Err(Refusal::WrongTicket);
-        }
+        check_ticket(&self.panel, rig, press)?;
         let page = page_of(&self.panel);
         add(&mut self.book, page);
         self.panel.open = false;
@@ -134,6 +131,7 @@ impl<B: BackEnd> Rig<B> {
         ensures { DoneBy B.meaning (asked P.places call.now) result self.old self.new }
     {
         match *call {
+            // Not `err()`: it would let the ticket go.
             Call::Press(proposals) => match self.press(proposals) {
                 Ok(ticket) => {
                     let Ticket { rig: _, press: _ } = ticket;

@@ -21,9 +21,9 @@ loop-i-preserved g c s cs show led st =
     let within : i ≤ length xs = omega arith in
     let len : length asks ≡ i = length-map (take i xs) f ∙ length-take-le i xs within in
     let grown : map f (take (i + 1) xs) ≡ asks ++ f x ∷ [] = map_more f xs i x (omega arith) ∙ ap (λ (y : _). asks ++ f y ∷ []) (sym c.index-calls-i.is) in
-    subst (λ (y : List Asked). Partly g.B.BackEnd.limit s cs show y a.panel a.book (g.B.BackEnd.meaning a.back) c.args.answers.now c.write_down.new.answers) (sym grown)
+    subst (λ (y : List Asked). Partly g.B.BackEnd.BOUND s cs show y a.panel a.book (g.B.BackEnd.meaning a.back) c.args.answers.now c.write_down.new.answers) (sym grown)
     (partly_more asks (f x) c.step-answer.result c.write_down.new.answers (c.loop-i.invariant s cs show led st) c.step-answer.ensures
-    (brings g.P.Order.places (record { mirrored = laws.mirrored; onward = laws.onward; alike = laws.alike }) g.B.BackEnd.limit x (g.B.BackEnd.meaning a.back) (kept.agrees a.back) (kept.settles a.back))
+    (brings g.P.Order.places (record { mirrored = laws.mirrored; onward = laws.onward; alike = laws.alike }) g.B.BackEnd.BOUND x (g.B.BackEnd.meaning a.back) (kept.agrees a.back) (kept.settles a.back))
     (λ l. c.write_down.ensures.there (omega arith) ∙ ap (λ (k : ℕ). set c.loop-i.answers k c.step-answer.result) (sym len))
     (λ l. c.write_down.ensures.past (omega arith)) (omega arith))
 
@@ -33,5 +33,5 @@ returns g c s cs show led st =
     let a = c.loop-i.self in
     let full : length c.args.calls.now ≤ c.loop-i.i = omega arith in
     performed (map f c.args.calls.now)
-    (subst (λ (x : List _). Partly g.B.BackEnd.limit s cs show (map f x) a.panel a.book (g.B.BackEnd.meaning a.back) c.args.answers.now c.loop-i.answers)
+    (subst (λ (x : List _). Partly g.B.BackEnd.BOUND s cs show (map f x) a.panel a.book (g.B.BackEnd.meaning a.back) c.args.answers.now c.loop-i.answers)
     (take_all c.loop-i.i c.args.calls.now full) (c.loop-i.invariant s cs show led st))
