@@ -1,7 +1,8 @@
 -- The steps of reading a schedule line by line.
-use Rattle.std.proofs.Common.{◌≡◌, ℕ, suc, ◌+◌, ◌<◌, ◌≤◌, false, eqb, ltb, leb, List, [], ◌∷◌, ◌++◌, length, Ok, Err, Result, sym, refl, ap, ◌∙◌, inl, inr, add-one, arith}
+use Rattle.std.proofs.Common.{◌≡◌, ℕ, suc, ◌+◌, ◌<◌, ◌≤◌, false, eqb, ltb, leb, List, [], ◌∷◌, ◌++◌, length, Bor, Some, None, Ok, Err, Option, Result, subst, sym, refl, ap, ◌∙◌, inl, inr, add-one, arith}
+use Rattle.std.specs.Option.{is_some}
 use Rattle.std.proofs.lemmas.List.{length-append}
-use Rattle.std.proofs.lemmas.Bool.{cases_Bool, cond-true, cond-false, ne_eqb, leb-true, le-leb, le-ltb, eqb-true}
+use Rattle.std.proofs.lemmas.Bool.{cases_Bool, cond-true, cond-false, ne_eqb, leb-true, le-leb, le-ltb, eqb-true, false≢true}
 use Rattle.schedule.specs.declared.refusal.FileRefusal.TheVariants.{LineLength}
 use Rattle.schedule.specs.declared.read.Reading.{Reading}
 use Rattle.schedule.specs.Parts.{before, onward, parted, later, starts}
@@ -84,3 +85,14 @@ pub through : (s : List ℕ) (r : Result ℕ Stop) → length s ≤ longest_sche
 through s r small some e =
     sym (cond-false (ltb longest_schedule (length s)) _ _ (le-ltb longest_schedule (length s) small)
     ∙ cond-false (eqb (length s) 0) _ _ (ne_eqb (length s) 0 (λ z. omega arith)) ∙ e)
+
+-- what `next_line` answers
+abbrev pub Next : List ℕ → Option (Bor (List ℕ) × Bor (List ℕ)) → Type 0
+Next input r = elim r [ Some p ↦ IsLine input p.0.now p.1.now | None ↦ ((line rest : List ℕ) → IsLine input line rest → ⊥) ]
+
+pub next_some : (input : List ℕ) (r : Option (Bor (List ℕ) × Bor (List ℕ))) (p : Bor (List ℕ) × Bor (List ℕ)) → Next input r → r ≡ Some p → IsLine input p.0.now p.1.now
+next_some input r p h e = subst (Next input) e h
+
+pub next_none : (input : List ℕ) (r : Option (Bor (List ℕ) × Bor (List ℕ))) → Next input r → false ≡ is_some r → (line rest : List ℕ) → IsLine input line rest → ⊥
+next_none input (Some p) h e = absurd (false≢true e)
+next_none input None h e = h

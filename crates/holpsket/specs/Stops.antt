@@ -1,7 +1,8 @@
 -- What a refusal shows, and the line that the program prints.
 use Rattle.std.specs.Prelude.{ℕ, List, ◌++◌, Ok, Err, codes, decimal, Result}
 use Rattle.rounds.specs.declared.refusals.Layer.{Layer}
-use Rattle.rounds.specs.declared.refusals.Layer.TheVariants.{File as FileLayer, Rig as RigLayer, Back as BackLayer}
+use Rattle.rounds.specs.declared.refusals.Layer.TheVariants.{File as FileLayer}
+use Rattle.rounds.specs.Refusals.{layer_word}
 use Rattle.rounds.specs.Refusals as rig
 use Rattle.schedule.specs.Refusals as file
 use Rattle.holpsket.specs.declared.stop.Stop.{Stop}
@@ -22,11 +23,6 @@ line_of (Rig refusal line) = line
 abbrev pub place_of : Stop → ℕ
 place_of (File refusal) = file.place_of refusal
 place_of (Rig refusal line) = rig.place_of refusal
-
-abbrev pub layer_word : Layer → List ℕ
-layer_word FileLayer = codes "file"
-layer_word RigLayer = codes "rig"
-layer_word BackLayer = codes "back"
 
 -- `end` and the count of lines, or `refused`, number, layer, line and place, parted by tabs
 abbrev pub last_line : Result ℕ Stop → List ℕ

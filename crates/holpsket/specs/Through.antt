@@ -1,5 +1,5 @@
 -- A schedule read through to its end, line by line: how many lines it has, or the first refusal that reading alone can find.
-use Rattle.std.specs.Prelude.{ℕ, suc, cond, List, [], ◌∷◌, length, Some, None, Ok, Err, Option, Result, ◌==◌, nat_le, nat_lt}
+use Rattle.std.specs.Prelude.{ℕ, suc, if◌then◌else◌, List, [], ◌∷◌, length, Some, None, Ok, Err, Option, Result, ◌==◌, nat_le, nat_lt}
 use Rattle.rounds.specs.declared.refusals.Refusal.{Refusal}
 use Rattle.rounds.specs.Checks.{size_refusal}
 use Rattle.schedule.specs.declared.refusal.FileRefusal.{FileRefusal}
@@ -44,14 +44,15 @@ read_on (Err stop) line more = Err stop
 
 unfoldable pub lines : Reading → ℕ → List (List ℕ) → Result ℕ Stop
 lines st line [] = Ok line
-lines st line (bytes ∷ []) = cond (length bytes == 0) (Ok line) (Err (File (LineLength (suc line))))
+lines st line (bytes ∷ []) = if length bytes == 0 then Ok line else Err (File (LineLength (suc line)))
 lines st line (bytes ∷ (next ∷ rest)) =
-    cond (nat_le (length bytes) longest_line)
-    (read_on (left st (suc line) bytes) (suc line) (λ st line. lines st line (next ∷ rest)))
-    (Err (File (LineLength (suc line))))
+    if nat_le (length bytes) longest_line
+    then read_on (left st (suc line) bytes) (suc line) (λ st line. lines st line (next ∷ rest))
+    else Err (File (LineLength (suc line)))
 
 -- the schedule read through
 abbrev pub read_through : List ℕ → Result ℕ Stop
 read_through bytes =
-    cond (nat_lt longest_schedule (length bytes)) (Err (File (LineLength 0)))
-    (cond (length bytes == 0) (Err (File (Misplaced 1))) (lines begun 0 (parted 10 bytes)))
+    if nat_lt longest_schedule (length bytes) then Err (File (LineLength 0))
+    else if length bytes == 0 then Err (File (Misplaced 1))
+    else lines begun 0 (parted 10 bytes)

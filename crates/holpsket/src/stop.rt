@@ -1,6 +1,7 @@
 // Why reading a schedule stops.
 ghost use Rattle.std.specs.Prelude.{◌≡◌};
-ghost use Rattle.holpsket.specs.Stops.{number_of, layer_of, line_of, place_of, layer_word};
+ghost use Rattle.holpsket.specs.declared.stop.Stop.TheVariants.{File};
+ghost use Rattle.holpsket.specs.Stops.{number_of, layer_of, line_of, place_of};
 
 use rounds::{Layer, Refusal};
 use schedule::FileRefusal;
@@ -11,6 +12,14 @@ pub enum Stop {
     File(FileRefusal),
     // The line says what a rig refuses.
     Rig { refusal: Refusal, line: u32 },
+}
+
+impl From<FileRefusal> for Stop {
+    ghost from_gives = { λ refusal stop. stop ≡ File refusal };
+
+    fn from(refusal: FileRefusal) -> Stop {
+        Stop::File(refusal)
+    }
 }
 
 impl Stop {
@@ -48,16 +57,5 @@ impl Stop {
             Stop::File(refusal) => refusal.place(),
             Stop::Rig { refusal, .. } => refusal.place() as u32,
         }
-    }
-}
-
-// The word of a layer.
-pub fn layer_word(layer: Layer) -> &'static str
-    ensures { result.now ≡ layer_word layer }
-{
-    match layer {
-        Layer::File => "file",
-        Layer::Rig => "rig",
-        Layer::Back => "back",
     }
 }

@@ -3,7 +3,7 @@ ghost use Rattle.std.specs.Prelude.{◌≡◌, IfOk, string_bytes};
 ghost use Rattle.holpsket.specs.Stops.{last_line};
 ghost use Rattle.holpsket.specs.Through.{left, read_through};
 
-use crate::stop::{Stop, layer_word};
+use crate::stop::Stop;
 use rounds::{Refusal, check_size};
 use schedule::{FileRefusal, Reading, Said, next_line};
 use std::alloc::{AllocError, Global};
@@ -15,14 +15,9 @@ pub const MAX_SCHEDULE: usize = 65_536;
 fn step(reading: &Reading, bytes: &[u8], line: u32) -> Result<Reading, Stop>
     ensures { result ≡ left reading.now line bytes.now }
 {
-    let said = match reading.read(bytes, line) {
-        Ok(said) => said,
-        Err(refusal) => return Err(Stop::File(refusal)),
-    };
+    let said = reading.read(bytes, line)?;
     if let Said::Rig(rig) = said {
-        if let Err(refusal) = check_size(rig.n, rig.t) {
-            return Err(Stop::Rig { refusal, line });
-        }
+        check_size(rig.n, rig.t).map_err(|refusal| Stop::Rig { refusal, line })?;
     }
     let mut next = *reading;
     next.accept(&said);
@@ -34,19 +29,18 @@ pub fn read_through(schedule: &[u8]) -> Result<u32, Stop>
     ensures { result ≡ read_through schedule.now }
 {
     if schedule.len() > MAX_SCHEDULE {
-        return Err(Stop::File(FileRefusal::LineLength { line: 0 }));
+        return Err(FileRefusal::LineLength { line: 0 }.into());
     }
     if schedule.is_empty() {
-        return Err(Stop::File(FileRefusal::Misplaced { line: 1 }));
+        return Err(FileRefusal::Misplaced { line: 1 }.into());
     }
     let mut reading = Reading::begin();
     let mut rest = schedule;
     let mut line = 0;
+    // Not an iterator of lines: `next_line` says both the line and where the rest begins.
     while !rest.is_empty() {
         line += 1;
-        let Some((bytes, others)) = next_line(rest) else {
-            return Err(Stop::File(FileRefusal::LineLength { line }));
-        };
+        let (bytes, others) = next_line(rest).ok_or(FileRefusal::LineLength { line })?;
         reading = step(&reading, bytes, line)?;
         rest = others;
     }
@@ -61,7 +55,7 @@ pub fn last_line(heap: Global, found: Result<u32, Stop>) -> Result<String, Alloc
         Ok(count) => format!(in heap; "end\t{count}"),
         Err(stop) => {
             let number = stop.number();
-            let layer = layer_word(stop.layer());
+            let layer = stop.layer().word();
             let line = stop.line();
             let place = stop.place();
             format!(in heap; "refused\t{number}\t{layer}\t{line}\t{place}")

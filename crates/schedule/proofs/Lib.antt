@@ -1,6 +1,6 @@
 pub mod Parted
+pub mod Tries
 pub mod Digits
-pub mod Front
 pub mod NextLine
 pub mod Same
 pub mod Each

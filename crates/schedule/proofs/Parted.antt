@@ -1,7 +1,9 @@
 -- Bytes cut at a separator, and the pieces that it parts them into.
-use Rattle.std.proofs.Common.{◌≡◌, ℕ, suc, ◌+◌, ◌<◌, ◌≤◌, true, false, cond, eqb, ◌⊎◌, List, [], ◌∷◌, ◌++◌, length, get_or, take, drop, sym, refl, ap, ◌∙◌, inl, inr, add-zero, arith}
-use Rattle.std.proofs.lemmas.Bool.{cases_Bool, cond-true, cond-false, eq-eqb, ne_eqb}
-use Rattle.std.proofs.lemmas.List.{drop_more, get_or-drop}
+use Rattle.std.proofs.Common.{◌≡◌, ℕ, suc, ◌<◌, ◌≤◌, true, false, cond, eqb, ltb, ◌⊎◌, List, [], ◌∷◌, ◌++◌, length, get_or, Bor, Some, None, Option, take, drop, sym, refl, ap, ◌∙◌, inl, inr, one-add, arith}
+use Rattle.std.proofs.lemmas.Bool.{cases_Bool, cond-true, cond-false, ltb-false}
+use Rattle.std.specs.List.{position_or_len, position, slice_get}
+use Rattle.std.specs.Option.{unwrap_or, option_map}
+use Rattle.std.proofs.lemmas.Option.{unwrap_or-slice_get}
 use Rattle.schedule.specs.Parts.{before, onward, onto, parted, starts, later}
 
 -- the two parts of a cut, put together again
@@ -29,12 +31,23 @@ length_before x (b ∷ bs) =
       | inr e ↦ rw (e) (omega (arith, length_before x bs))
     ]
 
--- the steps of a walk to the first x
-pub before_here : (x : ℕ) (s : List ℕ) (i : ℕ) → i < length s → get_or s i 0 ≡ x → before x (drop i s) ≡ []
-before_here x s i l e = ap (before x) (drop_more s i 0 l) ∙ cond-true (eqb (get_or s i 0) x) _ _ (eq-eqb (get_or s i 0) x e)
+-- the place of the first x, or the length where there is none
+pub place_before : (x : ℕ) (s : List ℕ) → position_or_len (λ b. eqb b x) s ≡ length (before x s)
+place_before x [] = refl
+place_before x (b ∷ bs) =
+    elim (cases_Bool (eqb b x)) [
+      | inl e ↦ rw (e)
+      | inr e ↦ rw (e) (rw (one-add) (ap suc (place_before x bs)))
+    ]
 
-pub before_past : (x : ℕ) (s : List ℕ) (i : ℕ) → i < length s → (get_or s i 0 ≡ x → ⊥) → before x (drop i s) ≡ get_or s i 0 ∷ before x (drop (i + 1) s)
-before_past x s i l ne = ap (before x) (drop_more s i 0 l) ∙ cond-false (eqb (get_or s i 0) x) _ _ (ne_eqb (get_or s i 0) x ne)
+pub reach_is : (x : ℕ) (s : List ℕ) → unwrap_or (position (λ b. eqb b x) s) (length s) ≡ length (before x s)
+reach_is x s =
+    let l = length_before x s in
+    let e = place_before x s in
+    elim (cases_Bool (ltb (position_or_len (λ b. eqb b x) s) (length s))) [
+      | inl t ↦ rw (t) e
+      | inr f ↦ rw (f) (omega (arith, ltb-false _ _ f))
+    ]
 
 -- a piece more behind the first x for each x
 later_cons : (x b : ℕ) (bs : List ℕ) → length (later x (b ∷ bs)) ≡ cond (eqb b x) (suc (length (later x bs))) (length (later x bs))
@@ -56,11 +69,16 @@ later_cons x b bs = elim (cases_Bool (eqb b x)) [ inl e ↦ rw (e) (whole (parte
     some x [] = omega arith
     some x (c ∷ s) = elim (cases_Bool (eqb c x)) [ inl e ↦ rw (e) (omega arith) | inr e ↦ rw (e) (more c (parted x s) (some x s)) ]
 
-pub later_here : (x : ℕ) (s : List ℕ) (i : ℕ) → i < length s → get_or s i 0 ≡ x → length (later x (drop i s)) ≡ suc (length (later x (drop (i + 1) s)))
-later_here x s i l e = ap (λ (t : List ℕ). length (later x t)) (drop_more s i 0 l) ∙ later_cons x (get_or s i 0) (drop (i + 1) s) ∙ cond-true (eqb (get_or s i 0) x) _ _ (eq-eqb (get_or s i 0) x e)
-
-pub later_past : (x : ℕ) (s : List ℕ) (i : ℕ) → i < length s → (get_or s i 0 ≡ x → ⊥) → length (later x (drop i s)) ≡ length (later x (drop (i + 1) s))
-later_past x s i l ne = ap (λ (t : List ℕ). length (later x t)) (drop_more s i 0 l) ∙ later_cons x (get_or s i 0) (drop (i + 1) s) ∙ cond-false (eqb (get_or s i 0) x) _ _ (ne_eqb (get_or s i 0) x ne)
+-- there are no more of them than bytes
+pub length_later : (x : ℕ) (s : List ℕ) → length (later x s) ≤ length s
+length_later x [] = omega arith
+length_later x (b ∷ bs) = omega (arith, length_later x bs, more)
+  where
+    more : length (later x (b ∷ bs)) ≤ suc (length (later x bs))
+    more = elim (cases_Bool (eqb b x)) [
+      | inl e ↦ omega (arith, later_cons x b bs ∙ cond-true (eqb b x) _ _ e)
+      | inr e ↦ omega (arith, later_cons x b bs ∙ cond-false (eqb b x) _ _ e)
+    ]
 
 pub before_onward : (x : ℕ) (s : List ℕ) → before x s ++ onward x s ≡ s
 before_onward x [] = refl
@@ -109,15 +127,14 @@ parted_cut x (b ∷ bs) =
     ]
 
 -- the first of the pieces that have an x before each, and the others
-pub later_first : (x : ℕ) (s : List ℕ) → starts x s ≡ true → get_or (later x s) 0 [] ≡ before x (drop 1 s)
-later_first x [] e = refl
-later_first x (b ∷ bs) e = rw (e) (ap (λ (ps : List (List ℕ)). get_or ps 0 []) (parted_cut x bs))
+pub later_tabbed : (x : ℕ) (s : List ℕ) (b : ℕ) (rest front others : List ℕ) → starts x s ≡ true → s ≡ b ∷ rest → front ≡ before x rest → others ≡ onward x rest →
+    later x s ≡ front ∷ later x others
+later_tabbed x s b rest front others h e f o =
+    let t : eqb b x ≡ true = sym (ap (starts x) e) ∙ h in
+    ap (later x) e ∙ ap (λ (ps : List (List ℕ)). drop 1 ps) (cond-true (eqb b x) _ _ t) ∙ parted_cut x rest ∙ (λ j. sym f j ∷ later x (sym o j))
 
-pub later_rest : (x : ℕ) (s : List ℕ) → starts x s ≡ true → later x (onward x (drop 1 s)) ≡ drop 1 (later x s)
-later_rest x [] e = refl
-later_rest x (b ∷ bs) e = sym (rw (e) (ap (drop 1) (parted_cut x bs)))
-
--- the first of what is left behind c pieces
-pub first_left : (ps rest : List (List ℕ)) (c i : ℕ) → c ≡ i → rest ≡ drop c ps → get_or rest 0 [] ≡ get_or ps i []
-first_left ps rest c i e h =
-    ap (λ (qs : List (List ℕ)). get_or qs 0 []) h ∙ get_or-drop c ps 0 [] ∙ ap (λ (k : ℕ). get_or ps k []) (add-zero c ∙ e)
+-- the piece of an index, empty where there is none
+pub at_index : (ps : List (List ℕ)) (i : ℕ) (r : Option (Bor (List ℕ))) (o none : Bor (List ℕ)) → option_map (λ x. x.now) r ≡ slice_get ps i → o ≡ unwrap_or r none → none.now ≡ [] →
+    o.now ≡ get_or ps i []
+at_index ps i None o none e f z = ap (λ (b : Bor (List ℕ)). b.now) f ∙ z ∙ sym (ap (λ (p : Option (List ℕ)). unwrap_or p []) (sym e)) ∙ unwrap_or-slice_get ps i []
+at_index ps i (Some x) o none e f z = ap (λ (b : Bor (List ℕ)). b.now) f ∙ ap (λ (p : Option (List ℕ)). unwrap_or p []) e ∙ unwrap_or-slice_get ps i []

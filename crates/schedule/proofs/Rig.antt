@@ -1,5 +1,6 @@
 -- The first bad one of the five fields of a rig line.
-use Rattle.std.proofs.Common.{◌≡◌, ℕ, suc, Bool, true, false, cond, eqb, List, [], ◌∷◌, length, get_or, Ok, Err, Option, Result, sym, refl, ap, ◌∙◌}
+use Rattle.std.proofs.Common.{◌≡◌, ℕ, suc, Bool, true, false, cond, eqb, List, [], ◌∷◌, length, get_or, Some, None, Ok, Err, Option, Result, sym, refl, ap, ◌∙◌}
+use Rattle.std.specs.Option.{is_none, unwrap_or}
 use Rattle.std.proofs.lemmas.Bool.{cond-true, eq-eqb}
 use Rattle.console_sets.specs.Sets.{lowest}
 use Rattle.schedule.specs.declared.refusal.FileRefusal.{FileRefusal}
@@ -9,7 +10,7 @@ use Rattle.schedule.specs.declared.said.ProposalKind.TheVariants.{Cue as OfCues}
 use Rattle.schedule.specs.declared.said.BackEndKind.{BackEndKind}
 use Rattle.schedule.specs.declared.said.BackEndKind.TheVariants.{Leader}
 use Rattle.schedule.specs.Numbers.{number_said}
-use Rattle.schedule.specs.Values.{missing, or_else, kind_said, back_end_said}
+use Rattle.schedule.specs.Values.{kind_said, back_end_said}
 use Rattle.schedule.specs.Said.{checked, field, rig_said}
 
 lowest_of_five : (a b c d e : Bool) → lowest (λ i. get_or (a ∷ (b ∷ (c ∷ (d ∷ (e ∷ []))))) i false) 5 ≡ cond a 1 (cond b 2 (cond c 3 (cond d 4 (cond e 5 0))))
@@ -44,11 +45,17 @@ pub rig_is : (line : ℕ) (fs : List (List ℕ)) (n t l : Option ℕ) (p : Optio
     n ≡ number_said 0 255 (field fs 0) → t ≡ number_said 0 255 (field fs 1) → p ≡ kind_said (field fs 2) → b ≡ back_end_said (field fs 3) →
     l ≡ number_said 1 1000000 (field fs 4) →
     rig_said line fs ≡
-    cond (missing n) (Err (BadField line 2)) (cond (missing t) (Err (BadField line 3)) (cond (missing p) (Err (BadField line 4)) (cond (missing b) (Err (BadField line 5))
-    (cond (missing l) (Err (BadField line 6))
-    (Ok (record { n = or_else 0 n; t = or_else 0 t; proposals = or_else OfCues p; back_end = or_else Leader b; round_length = or_else 0 l }))))))
+    cond (is_none n) (Err (BadField line 2)) (cond (is_none t) (Err (BadField line 3)) (cond (is_none p) (Err (BadField line 4)) (cond (is_none b) (Err (BadField line 5))
+    (cond (is_none l) (Err (BadField line 6))
+    (Ok (record { n = unwrap_or n 0; t = unwrap_or t 0; proposals = unwrap_or p OfCues; back_end = unwrap_or b Leader; round_length = unwrap_or l 0 }))))))
 rig_is line fs n t l p b five e₀ e₁ e₂ e₃ e₄ =
     checked_five line fs _ _ _ _ _ _ (sym five)
-    ∙ (λ j. cond (missing (sym e₀ j)) (Err (BadField line 2)) (cond (missing (sym e₁ j)) (Err (BadField line 3)) (cond (missing (sym e₂ j)) (Err (BadField line 4))
-    (cond (missing (sym e₃ j)) (Err (BadField line 5)) (cond (missing (sym e₄ j)) (Err (BadField line 6))
-    (Ok (record { n = or_else 0 (sym e₀ j); t = or_else 0 (sym e₁ j); proposals = or_else OfCues (sym e₂ j); back_end = or_else Leader (sym e₃ j); round_length = or_else 0 (sym e₄ j) })))))))
+    ∙ (λ j. cond (is_none (sym e₀ j)) (Err (BadField line 2)) (cond (is_none (sym e₁ j)) (Err (BadField line 3)) (cond (is_none (sym e₂ j)) (Err (BadField line 4))
+    (cond (is_none (sym e₃ j)) (Err (BadField line 5)) (cond (is_none (sym e₄ j)) (Err (BadField line 6))
+    (Ok (record { n = unwrap_or (sym e₀ j) 0; t = unwrap_or (sym e₁ j) 0; proposals = unwrap_or (sym e₂ j) OfCues; back_end = unwrap_or (sym e₃ j) Leader; round_length = unwrap_or (sym e₄ j) 0 })))))))
+
+-- where all but the length of a round are good
+pub rig_bad_length : (line : ℕ) (fs : List (List ℕ)) (n t : ℕ) (p : ProposalKind) (b : BackEndKind) → 5 ≡ length fs →
+    Some n ≡ number_said 0 255 (field fs 0) → Some t ≡ number_said 0 255 (field fs 1) → Some p ≡ kind_said (field fs 2) → Some b ≡ back_end_said (field fs 3) →
+    None ≡ number_said 1 1000000 (field fs 4) → Err (BadField line 6) ≡ rig_said line fs
+rig_bad_length line fs n t p b five e₀ e₁ e₂ e₃ e₄ = sym (rig_is line fs (Some n) (Some t) None (Some p) (Some b) five e₀ e₁ e₂ e₃ e₄)

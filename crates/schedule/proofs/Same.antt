@@ -1,8 +1,8 @@
--- Equal byte strings, and a byte string behind a colon.
-use Rattle.std.proofs.Common.{◌≡◌, ℕ, ◌-◌, ◌≤◌, true, false, eqb, ◌⊎◌, List, [], ◌∷◌, length, get_or, take, drop, Decides, sym, refl, ap, ◌∙◌, inl, inr, arith}
-use Rattle.std.proofs.lemmas.List.{take_rest}
-use Rattle.std.proofs.lemmas.Bool.{cases_Bool, eqb-true, eq-eqb, false≢true, cond-true}
-use Rattle.schedule.specs.Values.{same, behind_colon, word_said}
+-- Equal byte strings.
+use Rattle.std.proofs.Common.{◌≡◌, ℕ, ◌+◌, Bool, true, false, ◌&&◌, eqb, ◌⊎◌, List, [], ◌∷◌, length, get_or, sym, refl, ap, ◌∙◌, inl, inr, add-one, arith}
+use Rattle.std.proofs.lemmas.Bool.{cases_Bool, eqb-true, eq-eqb, false≢true, cond-true, and_right}
+use Rattle.std.proofs.lemmas.Bool.Decides.{nat_tests}
+use Rattle.schedule.specs.Values.{same}
 
 pub same_refl : (s : List ℕ) → same s s ≡ true
 same_refl [] = refl
@@ -18,10 +18,23 @@ same_true (b ∷ bs) (c ∷ cs) e = go (same_true bs cs) (cases_Bool (eqb b c))
     go more (inl q) = λ j. eqb-true b c q j ∷ more (rw q at e) j
     go more (inr q) = absurd (false≢true (rw q at e))
 
-pub decides_same : (s t : List ℕ) → Decides (same s t) (s ≡ t)
-decides_same s t = (same_true s t, λ e. ap (λ (x : List ℕ). same x t) e ∙ same_refl t)
+-- whether the bytes of the word stand from i on
+abbrev pub stands : List ℕ → ℕ → List ℕ → Bool
+stands [] i s = true
+stands (b ∷ bs) i s = eqb (get_or s i 0) b && stands bs (i + 1) s
 
--- what stands behind a colon
-pub at_colon : (s : List ℕ) → 1 ≤ length s → get_or s 0 0 ≡ 58 → behind_colon s ≡ word_said (take (length s - 1) (drop 1 s))
-at_colon [] l e = absurd (omega arith)
-at_colon (b ∷ bs) l e = cond-true (eqb b 58) _ _ (eq-eqb b 58 e) ∙ ap word_said (sym (take_rest (b ∷ bs) 1))
+stands_cons : (w : List ℕ) (i b : ℕ) (s : List ℕ) → stands w (i + 1) (b ∷ s) ≡ stands w i s
+stands_cons [] i b s = refl
+stands_cons (c ∷ w) i b s = rw (stands_cons w (i + 1) b s, add-one) refl
+
+-- the same bytes: as many, and each the same
+pub same_stands : (s w : List ℕ) → same s w ≡ (eqb (length s) (length w) && stands w 0 s)
+same_stands [] [] = refl
+same_stands [] (c ∷ w) = grind (arith, nat_tests)
+same_stands (b ∷ s) [] = grind (arith, nat_tests)
+same_stands (b ∷ s) (c ∷ w) =
+    let long : eqb (length (b ∷ s)) (length (c ∷ w)) ≡ eqb (length s) (length w) = grind (arith, nat_tests) in
+    elim (cases_Bool (eqb b c)) [
+      | inl e ↦ rw (e, long) (same_stands s w ∙ ap (λ (t : Bool). eqb (length s) (length w) && t) (sym (stands_cons w 0 b s)))
+      | inr e ↦ rw (e) (sym (and_right (eqb (length (b ∷ s)) (length (c ∷ w))) _ refl))
+    ]

@@ -1,5 +1,7 @@
 -- Each field has one text for each value.
 use Rattle.std.proofs.Common.{◌≡◌, ℕ, zero, suc, ◌+◌, ◌-◌, ◌*◌, ◌/◌, ◌%◌, ◌^◌, ◌<◌, ◌≤◌, true, false, cond, not, ◌&&◌, eqb, ltb, leb, ◌⊎◌, List, [], ◌∷◌, ◌++◌, length, get_or, Some, None, codes, decimal, Option, sym, refl, ap, ◌∙◌, subst, inl, inr, mod-lt, mod-eq_of_lt, div-lt_iff_lt-mul, div-add-mod', arith}
+use Rattle.std.specs.List.{list_all}
+use Rattle.std.specs.Option.{option_map}
 use native.Mathlib.Nat.{pow-succ', pow-zero, one-le-pow, mul-add-div_right, mul-add-mod_self_right, div-eq_of_lt}
 use Rattle.std.specs.Int.{IsInRange}
 use Rattle.std.proofs.lemmas.Str.Parse.{IsNumeralModel, IsDigitsTest, WeighsDigits, numerals_by_weight}
@@ -13,8 +15,8 @@ use Rattle.schedule.specs.declared.said.ProposalKind.TheVariants.{Cue as OfCues,
 use Rattle.schedule.specs.declared.said.BackEndKind.{BackEndKind}
 use Rattle.schedule.specs.declared.said.BackEndKind.TheVariants.{Leader, Third}
 use Rattle.schedule.specs.Parts.{before, onward}
-use Rattle.schedule.specs.Numbers.{each, digit, is_digit, value, is_decimal, number_said, digits_said}
-use Rattle.schedule.specs.Values.{same, mapped, word_said, cue_said, behind_colon, pressed, first_said}
+use Rattle.schedule.specs.Numbers.{digit, is_digit, value, is_decimal, number_said, digits_said}
+use Rattle.schedule.specs.Values.{same, word_said, cue_said, behind_colon, pressed, first_said}
 use Rattle.schedule.specs.Texts.{digit_byte, hexadecimal, cue_text, first_press_text, kind_text, back_end_text, OneText, FieldTexts}
 use Rattle.schedule.proofs.Parted.{before_onward, cut_at}
 use Rattle.schedule.proofs.Same.{same_refl, same_true}
@@ -27,11 +29,11 @@ none_is : {V : Type 0} {w : V} → None ≡ Some w → ⊥
 none_is e = let z : ◌≡◌ {A = ℕ} 0 1 = cc in omega arith
 
 -- decimal digits and their value, in the words of the library
-tells_each : IsDigitsTest (λ ds. each (is_digit 10) ds ≡ true)
+tells_each : IsDigitsTest (λ ds. list_all (is_digit 10) ds ≡ true)
 tells_each = record {
   empty = refl;
-  parts = λ c cs h. let both = and_parts (is_digit 10 c) (each (is_digit 10) cs) h in (digit_in c both.0, both.1);
-  more = λ c cs i h. and_from (is_digit 10 c) (each (is_digit 10) cs) (in_digit c i) h;
+  parts = λ c cs h. let both = and_parts (is_digit 10 c) (list_all (is_digit 10) cs) h in (digit_in c both.0, both.1);
+  more = λ c cs i h. and_from (is_digit 10 c) (list_all (is_digit 10) cs) (in_digit c i) h;
 }
   where
     digit_in : (c : ℕ) → is_digit 10 c ≡ true → IsInRange 48 57 c
@@ -46,17 +48,17 @@ weighs = record {
   more = λ c cs i. value_cons 10 c cs ∙ ap (λ (d : ℕ). d * 10 ^ length cs + value 10 cs) (cond-true (leb c 57) _ _ (grind (arith, nat_tests)));
 }
 
-own : IsNumeralModel (λ ds. each (is_digit 10) ds ≡ true) (value 10)
+own : IsNumeralModel (λ ds. list_all (is_digit 10) ds ≡ true) (value 10)
 own = numerals_by_weight _ tells_each (value 10) weighs
 
 -- the shape of a decimal number: digits, and no zero in front of others
-shape : (s : List ℕ) → each (is_digit 10) s ≡ true → 0 < length s → (get_or s 0 0 ≡ 48 → length s ≡ 1) → is_decimal s ≡ true
+shape : (s : List ℕ) → list_all (is_digit 10) s ≡ true → 0 < length s → (get_or s 0 0 ≡ 48 → length s ≡ 1) → is_decimal s ≡ true
 shape [] h l z = absurd (omega arith)
 shape (b ∷ []) h l z = (and_parts (is_digit 10 b) true h).0
 shape (b ∷ (d ∷ bs)) h l z = and_from (not (eqb b 48)) _ (not_from_false (eqb b 48) (ne_eqb b 48 (λ e. omega (arith, z e)))) h
 
 pub record Shape (s : List ℕ) : Type 0 where
-  pub digits : each (is_digit 10) s ≡ true
+  pub digits : list_all (is_digit 10) s ≡ true
   pub some : 0 < length s
   pub first : get_or s 0 0 ≡ 48 → length s ≡ 1
 
@@ -64,7 +66,7 @@ shaped : (s : List ℕ) → is_decimal s ≡ true → Shape s
 shaped [] h = absurd (false≢true h)
 shaped (b ∷ []) h = record { digits = and_from (is_digit 10 b) true h refl; some = omega arith; first = λ e. refl }
 shaped (b ∷ (d ∷ bs)) h =
-    let both = and_parts (not (eqb b 48)) (each (is_digit 10) (b ∷ (d ∷ bs))) h in
+    let both = and_parts (not (eqb b 48)) (list_all (is_digit 10) (b ∷ (d ∷ bs))) h in
     record { digits = both.1; some = omega arith; first = λ e. absurd (eqb-false b 48 (not-true (eqb b 48) both.0) e) }
 
 decimal_shape : (n : ℕ) → n < 2 ^ 64 → Shape (decimal n)
@@ -123,7 +125,7 @@ hex_length : (k n : ℕ) → length (hexadecimal k n) ≡ k
 hex_length zero n = refl
 hex_length (suc k) n = ap suc (hex_length k (n % 16 ^ k))
 
-hex_digits : (k n : ℕ) → n < 16 ^ k → each (is_digit 16) (hexadecimal k n) ≡ true
+hex_digits : (k n : ℕ) → n < 16 ^ k → list_all (is_digit 16) (hexadecimal k n) ≡ true
 hex_digits zero n l = refl
 hex_digits (suc k) n l =
     and_from (is_digit 16 (digit_byte (n / 16 ^ k))) _ (byte_digit (n / 16 ^ k) (first_digit k n l)).0 (hex_digits k (n % 16 ^ k) (mod-lt n (above k)))
@@ -135,10 +137,10 @@ hex_value (suc k) n l =
     ∙ (λ j. (byte_digit (n / 16 ^ k) (first_digit k n l)).1 j * 16 ^ hex_length k (n % 16 ^ k) j + hex_value k (n % 16 ^ k) (mod-lt n (above k)) j)
     ∙ div-add-mod' n (16 ^ k)
 
-hex_only : (s : List ℕ) → each (is_digit 16) s ≡ true → hexadecimal (length s) (value 16 s) ≡ s
+hex_only : (s : List ℕ) → list_all (is_digit 16) s ≡ true → hexadecimal (length s) (value 16 s) ≡ s
 hex_only [] h = refl
 hex_only (b ∷ bs) h =
-    let both = and_parts (is_digit 16 b) (each (is_digit 16) bs) h in
+    let both = and_parts (is_digit 16 b) (list_all (is_digit 16) bs) h in
     let v : value 16 bs < 16 ^ length bs = value_lt 16 bs both.1 in
     let whole = value_cons 16 b bs in
     let q : value 16 (b ∷ bs) / 16 ^ length bs ≡ digit b =
@@ -156,11 +158,11 @@ digits_text k = record { back = back; only = only }
         cond-true _ _ _ (and_from (eqb (length (hexadecimal k v)) k) _ (eq-eqb _ k (hex_length k v)) (hex_digits k v l)) ∙ ap Some (hex_value k v l)
 
     only : (s : List ℕ) (v : ℕ) → digits_said k s ≡ Some v → (v < 16 ^ k) × (s ≡ hexadecimal k v)
-    only s v h = go (cases_Bool (eqb (length s) k && each (is_digit 16) s))
+    only s v h = go (cases_Bool (eqb (length s) k && list_all (is_digit 16) s))
       where
-        go : ((eqb (length s) k && each (is_digit 16) s) ≡ true) ⊎ ((eqb (length s) k && each (is_digit 16) s) ≡ false) → (v < 16 ^ k) × (s ≡ hexadecimal k v)
+        go : ((eqb (length s) k && list_all (is_digit 16) s) ≡ true) ⊎ ((eqb (length s) k && list_all (is_digit 16) s) ≡ false) → (v < 16 ^ k) × (s ≡ hexadecimal k v)
         go (inl t) =
-            let both = and_parts (eqb (length s) k) (each (is_digit 16) s) t in
+            let both = and_parts (eqb (length s) k) (list_all (is_digit 16) s) t in
             let l : length s ≡ k = eqb-true (length s) k both.0 in
             let e : value 16 s ≡ v = some_is (sym (cond-true _ _ _ t) ∙ h) in (
               subst (λ (n : ℕ). n < 16 ^ k) e (subst (λ (m : ℕ). value 16 s < 16 ^ m) l (value_lt 16 s both.1)),
@@ -176,7 +178,7 @@ word_text =
 
 -- cues
 pub cue_text_one : OneText (λ c. c.0 < 2 ^ 32) cue_text cue_said
-cue_text_one = record { back = λ c l. ap (mapped (λ v. record { 0 = v })) (word_text.back c.0 l); only = only }
+cue_text_one = record { back = λ c l. ap (option_map (λ v. record { 0 = v })) (word_text.back c.0 l); only = only }
   where
     only : (s : List ℕ) (c : Cue) → cue_said s ≡ Some c → (c.0 < 2 ^ 32) × (s ≡ cue_text c)
     only s c h = go (word_said s) refl
@@ -184,15 +186,15 @@ cue_text_one = record { back = λ c l. ap (mapped (λ v. record { 0 = v })) (wor
         go : (o : Option ℕ) → word_said s ≡ o → (c.0 < 2 ^ 32) × (s ≡ cue_text c)
         go (Some v) e =
             let r = word_text.only s v e in
-            let k : v ≡ c.0 = ap (λ (x : Cue). x.0) (some_is (sym (ap (mapped (λ v. record { 0 = v })) e) ∙ h)) in
+            let k : v ≡ c.0 = ap (λ (x : Cue). x.0) (some_is (sym (ap (option_map (λ v. record { 0 = v })) e) ∙ h)) in
             (omega (arith, r.0), r.1 ∙ ap decimal k)
-        go None e = absurd (none_is (sym (ap (mapped (λ v. record { 0 = v })) e) ∙ h))
+        go None e = absurd (none_is (sym (ap (option_map (λ v. record { 0 = v })) e) ∙ h))
 
 -- first presses
-no_colon : (s : List ℕ) → each (is_digit 10) s ≡ true → before 58 s ≡ s
+no_colon : (s : List ℕ) → list_all (is_digit 10) s ≡ true → before 58 s ≡ s
 no_colon [] h = refl
 no_colon (b ∷ bs) h =
-    let both = and_parts (is_digit 10 b) (each (is_digit 10) bs) h in
+    let both = and_parts (is_digit 10 b) (list_all (is_digit 10) bs) h in
     let q : eqb b 58 ≡ false = ne_eqb b 58 (λ e. let d = both.0 in grind (arith, nat_tests)) in
     cond-false (eqb b 58) _ _ q ∙ ap (λ (t : List ℕ). b ∷ t) (no_colon bs both.1)
 

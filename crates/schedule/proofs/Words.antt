@@ -1,20 +1,12 @@
 -- A line taken apart by its first word, and what the definition of its kind says of it.
-use Rattle.std.proofs.Common.{◌≡◌, ℕ, true, false, ◌⊎◌, List, ◌++◌, drop, None, codes, sym, refl, ap, ◌∙◌, inl, inr}
+use Rattle.std.proofs.Common.{◌≡◌, ℕ, true, false, ◌⊎◌, List, ◌++◌, None, codes, sym, refl, ap, ◌∙◌, inl, inr}
 use Rattle.std.proofs.lemmas.Bool.{cases_Bool}
-use Rattle.schedule.specs.Parts.{before, onward, later}
+use Rattle.schedule.specs.Parts.{before, onward}
 use Rattle.schedule.specs.Values.{same}
 use Rattle.schedule.specs.Kinds.{Begins, Unknown}
 use Rattle.schedule.specs.Reading.{kind_of}
-use Rattle.schedule.proofs.Parted.{before_onward, starts_onward, parted_cut, cut_at}
+use Rattle.schedule.proofs.Parted.{before_onward, starts_onward}
 use Rattle.schedule.proofs.Same.{same_true}
-
--- a line that begins with a word has it as its first piece, and the fields as the others
-pub first_word : (w line fields : List ℕ) → before 9 w ≡ w → Begins w line fields → before 9 line ≡ w
-first_word w line fields e h = ap (before 9) h.whole ∙ (cut_at 9 w fields e h.apart).0
-
-pub same_fields : (w line fields : List ℕ) → before 9 w ≡ w → Begins w line fields → later 9 line ≡ later 9 fields
-same_fields w line fields e h =
-    ap (drop 1) (parted_cut 9 line) ∙ ap (later 9) (ap (onward 9) h.whole ∙ (cut_at 9 w fields e h.apart).1)
 
 -- a line of no kind
 pub unknown : (line : List ℕ) → Unknown line → kind_of (before 9 line) ≡ None

@@ -18,8 +18,8 @@ pub record Unknown (line : List ℕ) : Type 0 where
 
 -- the line with its number, taken apart by its first word
 abbrev pub Apart : List ℕ → ℕ → Option Line → Type 0
-Apart line k (Some (Rig fields number)) = Begins (codes "rig") line fields.now × (number ≡ k)
-Apart line k (Some (Press fields number)) = Begins (codes "press") line fields.now × (number ≡ k)
-Apart line k (Some (Round fields number)) = Begins (codes "round") line fields.now × (number ≡ k)
-Apart line k (Some (Close fields number)) = Begins (codes "close") line fields.now × (number ≡ k)
+Apart line k (Some (Rig fields number)) = Begins (codes "rig") line fields.bytes.now × (number ≡ k)
+Apart line k (Some (Press fields number)) = Begins (codes "press") line fields.bytes.now × (number ≡ k)
+Apart line k (Some (Round fields number)) = Begins (codes "round") line fields.bytes.now × (number ≡ k)
+Apart line k (Some (Close fields number)) = Begins (codes "close") line fields.bytes.now × (number ≡ k)
 Apart line k None = Unknown line

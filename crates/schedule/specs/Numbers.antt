@@ -1,19 +1,15 @@
 -- What a field says as a number or as a set of consoles, and how either is written.
-use Rattle.std.specs.Prelude.{ℕ, ◌+◌, ◌-◌, ◌*◌, ◌^◌, Bool, true, false, cond, not, ◌&&◌, ◌||◌, List, [], ◌∷◌, map, length, Some, None, Option, ◌==◌, nat_le, nat_lt}
+use Rattle.std.specs.Prelude.{ℕ, ◌+◌, ◌-◌, ◌*◌, ◌^◌, Bool, false, if◌then◌else◌, not, ◌&&◌, ◌||◌, List, [], ◌∷◌, map, length, Some, None, Option, ◌==◌, nat_le, nat_lt}
+use Rattle.std.specs.List.{list_all}
 
 -- the number that digits write in a base: the sum of each digit times the base to the power of its place, the last place being 0
 abbrev pub placed : ℕ → List ℕ → ℕ
 placed base [] = 0
 placed base (d ∷ ds) = d * base ^ length ds + placed base ds
 
--- whether each byte passes the test
-abbrev pub each : (ℕ → Bool) → List ℕ → Bool
-each p [] = true
-each p (b ∷ bs) = p b && each p bs
-
 -- the digit that a byte stands for, `0` to `9` and `a` to `f`
 abbrev pub digit : ℕ → ℕ
-digit b = cond (nat_le b 57) (b - 48) (b - 87)
+digit b = if nat_le b 57 then b - 48 else b - 87
 
 -- whether a byte is one of those and its digit is one of the base
 abbrev pub is_digit : ℕ → ℕ → Bool
@@ -27,15 +23,15 @@ value base bs = placed base (map digit bs)
 abbrev pub is_decimal : List ℕ → Bool
 is_decimal [] = false
 is_decimal (b ∷ []) = is_digit 10 b
-is_decimal (b ∷ (d ∷ bs)) = not (b == 48) && each (is_digit 10) (b ∷ (d ∷ bs))
+is_decimal (b ∷ (d ∷ bs)) = not (b == 48) && list_all (is_digit 10) (b ∷ (d ∷ bs))
 
 -- what a field says as a number from least to most
 abbrev pub number_said : ℕ → ℕ → List ℕ → Option ℕ
-number_said least most bs = cond (is_decimal bs && (nat_le least (value 10 bs) && nat_le (value 10 bs) most)) (Some (value 10 bs)) None
+number_said least most bs = if is_decimal bs && (nat_le least (value 10 bs) && nat_le (value 10 bs) most) then Some (value 10 bs) else None
 
 -- what a field of so many hexadecimal digits says as a set of consoles
 abbrev pub digits_said : ℕ → List ℕ → Option ℕ
-digits_said count bs = cond (length bs == count && each (is_digit 16) bs) (Some (value 16 bs)) None
+digits_said count bs = if length bs == count && list_all (is_digit 16) bs then Some (value 16 bs) else None
 
 -- a set has four digits
 abbrev pub set_digits : ℕ

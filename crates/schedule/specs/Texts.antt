@@ -1,5 +1,5 @@
 -- How the values of fields are written, and the law that ties writing to reading: what is written reads as the value again, and nothing else does.
-use Rattle.std.specs.Prelude.{◌≡◌, ℕ, zero, suc, ◌+◌, ◌/◌, ◌%◌, ◌^◌, ◌<◌, ◌≤◌, cond, List, [], ◌∷◌, ◌++◌, Some, codes, decimal, Option, nat_lt}
+use Rattle.std.specs.Prelude.{◌≡◌, ℕ, zero, suc, ◌+◌, ◌/◌, ◌%◌, ◌^◌, ◌<◌, ◌≤◌, if◌then◌else◌, List, [], ◌∷◌, ◌++◌, Some, codes, decimal, Option, nat_lt}
 use Rattle.orders.specs.declared.Cue.{Cue}
 use Rattle.orders.specs.declared.FirstPress.{FirstPress}
 use Rattle.schedule.specs.declared.said.ProposalKind.{ProposalKind}
@@ -11,7 +11,7 @@ use Rattle.schedule.specs.Values.{cue_said, first_said, kind_said, back_end_said
 
 -- the byte that stands for a digit below 16
 abbrev pub digit_byte : ℕ → ℕ
-digit_byte d = cond (nat_lt d 10) (48 + d) (87 + d)
+digit_byte d = if nat_lt d 10 then 48 + d else 87 + d
 
 -- a number below 16 ^ k in k hexadecimal digits
 abbrev pub hexadecimal : ℕ → ℕ → List ℕ

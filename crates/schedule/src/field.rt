@@ -1,7 +1,7 @@
 // Values that a field of a line can say.
-ghost use Rattle.std.specs.Prelude.{◌≡◌, ℕ, Bool, List, if◌then◌else◌, Some, None, codes, Option as Opt};
+ghost use Rattle.std.specs.Prelude.{◌≡◌, ℕ, List, Option as Opt};
 ghost use Rattle.schedule.specs.Numbers.{set_said};
-ghost use Rattle.schedule.specs.Values.{same, cue_said, behind_colon, first_said, proposal_said, kind_said, back_end_said, word_said};
+ghost use Rattle.schedule.specs.Values.{cue_said, behind_colon, first_said, kind_said, back_end_said, word_said};
 
 use crate::numbers::{number, set};
 use crate::parts::cut;
@@ -9,51 +9,34 @@ use crate::said::{BackEndKind, ProposalKind};
 use console_sets::ConsoleSet;
 use orders::{Cue, FirstPress};
 
-// What the fields of a press or a round say of one console after the other.
-pub(crate) trait FieldValue: Copy {
-    ghost nothing: { Self };
+// A value that a field spells.
+pub(crate) trait FieldValue: Sized {
+    ghost said: { List ℕ → Opt Self };
 
-    ghost says: { Bool → List ℕ → Opt Self };
+    fn parse(field: &[u8]) -> Option<Self>
+        ensures { result ≡ said field.now };
+}
 
+// A value that a line spells for each console.
+pub(crate) trait ConsoleValue: FieldValue + Copy {
     // The value of a console of which nothing is said.
-    fn blank() -> Self
-        ensures { result ≡ nothing };
+    const BLANK: Self;
 
-    // What the field says of a console, which may have fallen.
-    fn read(fell: bool, field: &[u8]) -> Option<Self>
-        ensures { result ≡ says fell field.now };
+    ghost BLANK: { Self };
 }
 
 impl FieldValue for ConsoleSet {
-    ghost nothing = { 0 };
+    ghost said = { λ bs. set_said bs };
 
-    ghost says = { λ _ bs. set_said bs };
-
-    fn blank() -> ConsoleSet {
-        0
-    }
-
-    fn read(_fell: bool, field: &[u8]) -> Option<ConsoleSet> {
+    fn parse(field: &[u8]) -> Option<ConsoleSet> {
         set(field)
     }
 }
 
-// Whether the field is the word.
-fn spells(field: &[u8], word: &[u8]) -> bool
-    ensures { result ≡ same field.now word.now }
-{
-    field == word
-}
+impl ConsoleValue for ConsoleSet {
+    const BLANK: ConsoleSet = 0;
 
-// The blank proposal of a fallen console, whose field is `-`.
-fn fallen<P: Copy>(field: &[u8], blank: P) -> Option<P>
-    ensures { result ≡ (if same field.now (codes "-") then Some blank else None) }
-{
-    if spells(field, b"-") {
-        Some(blank)
-    } else {
-        None
-    }
+    ghost BLANK = { 0 };
 }
 
 fn word(field: &[u8]) -> Option<u32>
@@ -62,10 +45,18 @@ fn word(field: &[u8]) -> Option<u32>
     number(field, 0, u32::MAX)
 }
 
-fn cue(field: &[u8]) -> Option<Cue>
-    ensures { result ≡ cue_said field.now }
-{
-    Some(Cue(word(field)?))
+impl FieldValue for Cue {
+    ghost said = { λ bs. cue_said bs };
+
+    fn parse(field: &[u8]) -> Option<Cue> {
+        word(field).map(Cue)
+    }
+}
+
+impl ConsoleValue for Cue {
+    const BLANK: Cue = Cue(0);
+
+    ghost BLANK = { record { 0 = 0 } };
 }
 
 // The cue behind a colon.
@@ -78,71 +69,46 @@ fn behind_colon(rest: &[u8]) -> Option<u32>
     }
 }
 
-fn first_press(field: &[u8]) -> Option<FirstPress>
-    ensures { result ≡ first_said field.now }
-{
-    let (tick, rest) = cut(field, b':');
-    let tick = word(tick)?;
-    let cue = behind_colon(rest)?;
-    Some(FirstPress { tick, cue })
-}
-
-impl FieldValue for Cue {
-    ghost nothing = { record { 0 = 0 } };
-
-    ghost says = { proposal_said (record { 0 = 0 }) cue_said };
-
-    fn blank() -> Cue {
-        Cue(0)
-    }
-
-    fn read(fell: bool, field: &[u8]) -> Option<Cue> {
-        if fell {
-            fallen(field, Cue(0))
-        } else {
-            cue(field)
-        }
-    }
-}
-
 impl FieldValue for FirstPress {
-    ghost nothing = { record { tick = 0; cue = 0 } };
+    ghost said = { λ bs. first_said bs };
 
-    ghost says = { proposal_said (record { tick = 0; cue = 0 }) first_said };
-
-    fn blank() -> FirstPress {
-        FirstPress { tick: 0, cue: 0 }
+    fn parse(field: &[u8]) -> Option<FirstPress> {
+        let (tick, rest) = cut(field, b':');
+        Some(FirstPress {
+            tick: word(tick)?,
+            cue: behind_colon(rest)?,
+        })
     }
+}
 
-    fn read(fell: bool, field: &[u8]) -> Option<FirstPress> {
-        if fell {
-            fallen(field, FirstPress { tick: 0, cue: 0 })
-        } else {
-            first_press(field)
+impl ConsoleValue for FirstPress {
+    const BLANK: FirstPress = FirstPress { tick: 0, cue: 0 };
+
+    ghost BLANK = { record { tick = 0; cue = 0 } };
+}
+
+impl FieldValue for ProposalKind {
+    ghost said = { λ bs. kind_said bs };
+
+    #[tactic(auto, using(crate::proofs::Same::same_stands))]
+    fn parse(field: &[u8]) -> Option<ProposalKind> {
+        match field {
+            b"cue" => Some(ProposalKind::Cue),
+            b"first" => Some(ProposalKind::First),
+            _ => None,
         }
     }
 }
 
-pub(crate) fn proposal_kind(field: &[u8]) -> Option<ProposalKind>
-    ensures { result ≡ kind_said field.now }
-{
-    if spells(field, b"cue") {
-        Some(ProposalKind::Cue)
-    } else if spells(field, b"first") {
-        Some(ProposalKind::First)
-    } else {
-        None
-    }
-}
+impl FieldValue for BackEndKind {
+    ghost said = { λ bs. back_end_said bs };
 
-pub(crate) fn back_end_kind(field: &[u8]) -> Option<BackEndKind>
-    ensures { result ≡ back_end_said field.now }
-{
-    if spells(field, b"leader") {
-        Some(BackEndKind::Leader)
-    } else if spells(field, b"third") {
-        Some(BackEndKind::Third)
-    } else {
-        None
+    #[tactic(auto, using(crate::proofs::Same::same_stands))]
+    fn parse(field: &[u8]) -> Option<BackEndKind> {
+        match field {
+            b"leader" => Some(BackEndKind::Leader),
+            b"third" => Some(BackEndKind::Third),
+            _ => None,
+        }
     }
 }

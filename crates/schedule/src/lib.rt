@@ -14,6 +14,7 @@ mod said_lines;
 mod tests;
 mod theorems;
 
+pub use fields::Fields;
 pub use line::{Line, next_line, take_apart};
 pub use read::{Reading, Stage};
 pub use refusal::FileRefusal;

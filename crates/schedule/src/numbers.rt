@@ -1,13 +1,14 @@
 // What a field says as a number or as a set of consoles.
-ghost use Rattle.std.specs.Prelude.{◌≡◌, ◌+◌, ◌*◌, ◌^◌, ◌≤◌, ◌&&◌, if◌then◌else◌, Some, None, nat_lt};
-ghost use Rattle.schedule.specs.Numbers.{each, is_digit, digit as digit_of, value, number_said, set_said};
+ghost use Rattle.std.specs.Prelude.{◌≡◌, ◌+◌, ◌*◌, ◌^◌, ◌≤◌, ◌&&◌, if◌then◌else◌, Some, None, nat_lt, ◌==◌, not, length, slice_index_or};
+ghost use Rattle.std.specs.List.{list_all};
+ghost use Rattle.schedule.specs.Numbers.{is_digit, digit as digit_of, value, number_said, set_said};
 
 use console_sets::ConsoleSet;
 
 // How many hexadecimal digits a set has.
 const SET_DIGITS: usize = 4;
 
-// The digit of the base that a byte stands for.
+// The digit of the base that a byte stands for. Not `to_digit` of `char`: it takes upper-case letters too.
 fn digit(b: u8, base: u32) -> Option<u32>
     ensures { result ≡ (if is_digit base b then Some (digit_of b) else None) }
 {
@@ -16,11 +17,7 @@ fn digit(b: u8, base: u32) -> Option<u32>
         b'a'..=b'f' => b - b'a' + 10,
         _ => return None,
     };
-    if (digit as u32) < base {
-        Some(digit as u32)
-    } else {
-        None
-    }
+    Some(u32::from(digit)).filter(|digit| *digit < base)
 }
 
 // A number with one digit more behind it, if the result has 32 bits.
@@ -34,29 +31,29 @@ fn behind(number: u32, base: u32, b: u8) -> Option<u32>
 // The number that bytes write in a base, if each is a digit of it and the number has 32 bits.
 fn number_in(bytes: &[u8], base: u32) -> Option<u32>
     requires { 1 ≤ base }
-    ensures { result ≡ (if each (is_digit base) bytes.now && nat_lt (value base bytes.now) (2 ^ 32) then Some (value base bytes.now) else None) }
+    ensures { result ≡ (if list_all (is_digit base) bytes.now && nat_lt (value base bytes.now) (2 ^ 32) then Some (value base bytes.now) else None) }
 {
-    let mut number = 0;
-    for b in bytes {
-        number = behind(number, base, *b)?;
-    }
-    Some(number)
+    bytes
+        .iter()
+        .try_fold(0, |number, b| behind(number, base, *b))
 }
 
-// What a field says as a decimal number from `least` to `most`.
+// Whether there are bytes, the first of them no `0` unless it stands alone.
+fn is_plain(field: &[u8]) -> bool
+    ensures { result ≡ (nat_lt 0 (length field.now) && not (slice_index_or field.now 0 0 == 48 && nat_lt 1 (length field.now))) }
+{
+    !matches!(field, [] | [b'0', _, ..])
+}
+
+// What a field says as a decimal number from `least` to `most`. Not std's `parse`: it takes a sign and leading zeros.
+#[tactic(auto, using(crate::proofs::Digits::decimal_is))]
 pub(crate) fn number(field: &[u8], least: u32, most: u32) -> Option<u32>
     ensures { result ≡ number_said least most field.now }
 {
-    match field {
-        [] | [b'0', _, ..] => return None,
-        _ => {}
+    if !is_plain(field) {
+        return None;
     }
-    let number = number_in(field, 10)?;
-    if least <= number && number <= most {
-        Some(number)
-    } else {
-        None
-    }
+    number_in(field, 10).filter(|number| (least..=most).contains(number))
 }
 
 // What a field says as a set of consoles.
@@ -66,6 +63,5 @@ pub(crate) fn set(field: &[u8]) -> Option<ConsoleSet>
     if field.len() != SET_DIGITS {
         return None;
     }
-    let number = number_in(field, 16)?;
-    Some(number as ConsoleSet)
+    ConsoleSet::try_from(number_in(field, 16)?).ok()
 }

@@ -1,13 +1,13 @@
 // A line of a schedule read where it stands.
-ghost use Rattle.std.specs.Prelude.{◌≡◌, true};
-ghost use Rattle.schedule.specs.Parts.{starts, later};
-ghost use Rattle.schedule.specs.Reading.{said_by, proposals_said, close_said, line_said, Tabbed, begun, after};
+ghost use Rattle.std.specs.Prelude.{◌≡◌};
+ghost use Rattle.schedule.specs.Fields.{left};
+ghost use Rattle.schedule.specs.Reading.{said_by, proposals_said, line_said, begun, after};
 
+use crate::fields::Fields;
 use crate::line::{Line, take_apart};
-use crate::parts::count_of;
 use crate::refusal::FileRefusal;
 use crate::said::{ProposalKind, Proposals, Said};
-use crate::said_lines::{press_line, rig_line, round_line};
+use crate::said_lines::{close_line, press_line, rig_line, round_line};
 use console_sets::{ConsoleSet, union};
 
 // How far a schedule has come: its rig line is next, no press is open, or one is.
@@ -70,17 +70,16 @@ impl Reading {
     }
 
     fn say(&self, line: Line<'_>) -> Result<Said, FileRefusal>
-        requires { Tabbed line }
         ensures { result ≡ line_said self.now line.entry }
     {
         match (self.stage, line) {
-            (Stage::Start, Line::Rig { fields, line }) => Ok(Said::Rig(rig_line(fields, line)?)),
-            (Stage::Closed | Stage::Open, Line::Press { fields, line }) => Ok(Said::Press(
-                self.proposals(fields, line)?,
-            )),
-            (Stage::Open, Line::Round { fields, line }) => Ok(Said::Round(round_line(
-                fields, line, self.n,
-            )?)),
+            (Stage::Start, Line::Rig { fields, line }) => rig_line(fields, line).map(Said::Rig),
+            (Stage::Closed | Stage::Open, Line::Press { fields, line }) => {
+                self.proposals(fields, line).map(Said::Press)
+            }
+            (Stage::Open, Line::Round { fields, line }) => {
+                round_line(fields, line, self.n).map(Said::Round)
+            }
             (Stage::Open, Line::Close { fields, line }) => close_line(fields, line),
             (
                 _,
@@ -92,33 +91,16 @@ impl Reading {
         }
     }
 
-    fn proposals(&self, fields: &[u8], line: u32) -> Result<Proposals, FileRefusal>
-        requires { starts 9 fields.now ≡ true }
-        ensures { result ≡ proposals_said self.now.proposals self.now.n self.now.fallen line (later 9 fields.now) }
+    fn proposals(&self, fields: Fields<'_>, line: u32) -> Result<Proposals, FileRefusal>
+        ensures { result ≡ proposals_said self.now.proposals self.now.n self.now.fallen line (left fields.entry) }
     {
         match self.proposals {
-            ProposalKind::Cue => Ok(Proposals::Cues(press_line::<orders::Cue>(
-                fields,
-                line,
-                self.n,
-                self.fallen,
-            )?)),
-            ProposalKind::First => Ok(Proposals::FirstPresses(press_line::<orders::FirstPress>(
-                fields,
-                line,
-                self.n,
-                self.fallen,
-            )?)),
+            ProposalKind::Cue => {
+                press_line(fields, line, self.n, self.fallen).map(Proposals::Cues)
+            }
+            ProposalKind::First => {
+                press_line(fields, line, self.n, self.fallen).map(Proposals::FirstPresses)
+            }
         }
-    }
-}
-
-fn close_line(fields: &[u8], line: u32) -> Result<Said, FileRefusal>
-    ensures { result ≡ close_said line (later 9 fields.now) }
-{
-    if count_of(fields, b'\t') == 0 {
-        Ok(Said::Close)
-    } else {
-        Err(FileRefusal::FieldCount { line })
     }
 }

@@ -110,10 +110,7 @@ fn values(rt: HostRuntime) -> Result<(), Fail> {
 
 // The lengths of the next line and of what is left.
 fn lengths(input: &[u8]) -> Option<(usize, usize)> {
-    match next_line(input) {
-        Some((line, rest)) => Some((line.len(), rest.len())),
-        None => None,
-    }
+    next_line(input).map(|(line, rest)| (line.len(), rest.len()))
 }
 
 #[test]
@@ -127,4 +124,17 @@ fn lines(rt: HostRuntime) {
     assert_eq!(rt; lengths(b"close"), None);
     assert_eq!(rt; lengths(b""), None);
     assert_eq!(rt; lengths(b"\nclose\n"), Some((0, 6)));
+}
+
+#[test]
+fn fields_one_by_one(rt: HostRuntime) -> Result<(), Fail> {
+    let Some(Line::Press { mut fields, line }) = take_apart(b"press\t7\t\t10", 2) else {
+        return Err(Fail::new("no press"));
+    };
+    assert_eq!(rt; line, 2);
+    assert_eq!(rt; fields.next().map(|field| field.len()), Some(1));
+    assert_eq!(rt; fields.next().map(|field| field.len()), Some(0));
+    assert_eq!(rt; fields.next().map(|field| field.len()), Some(2));
+    assert_eq!(rt; fields.next().is_none(), true);
+    Ok(())
 }

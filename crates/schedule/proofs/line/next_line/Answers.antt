@@ -1,9 +1,10 @@
-use Rattle.std.proofs.Common.{sym, rules}
+use Rattle.std.proofs.Common.{◌≤◌, length, arith, rules}
+use Rattle.schedule.specs.Lines.{longest_line}
 use Rattle.schedule.proofs.NextLine.{is_line, one_line}
 use Rattle.schedule.proofs.line.next_line.Goals as goal
 
 pub returns-in-10 : goal.returns-in-10
-returns-in-10 c = let short = sym c.if-is_short.ensures in search (rules, is_line)
+returns-in-10 c = let short : length c.cut.result.0.now ≤ longest_line = omega arith in search (rules, is_line)
 
 pub returns-in_default : goal.returns-in_default
 returns-in_default c = λ a b h.

@@ -1,18 +1,10 @@
-use Rattle.std.proofs.Common.{sym, arith}
-use Rattle.std.proofs.lemmas.Bool.{cond-false}
-use Rattle.schedule.proofs.Digits.{reads_none, reads_more, reads_no_more, reads_all}
+use Rattle.std.proofs.Common.{◌∙◌, rules, tests}
+use Rattle.std.proofs.lemmas.Iterator.{YieldsList-from_slice}
+use Rattle.schedule.proofs.Tries.{tried_from_yields_List}
+use Rattle.schedule.proofs.Digits.{behind, digits_tried}
 use Rattle.schedule.proofs.numbers.number_in.Goals as goal
 
-pub returns-in_err-number : goal.returns-in_err-number
-returns-in_err-number c =
-    rw c.from_residual.ensures
-    (sym (cond-false _ _ _ (reads_no_more c.args.base c.args.bytes.now c.loop-b.number c.loop-b.b-index c.requires (omega arith) c.in_err-number.ensures c.loop-b.invariant)))
-
-pub loop-b-init : goal.loop-b-init
-loop-b-init c = reads_none c.args.base c.args.bytes.now
-
-pub loop-b-preserved : goal.loop-b-preserved
-loop-b-preserved c = reads_more c.args.base c.args.bytes.now c.loop-b.number c.in_ok-number.number c.loop-b.b-index (omega arith) c.in_ok-number.ensures c.loop-b.invariant
-
 pub returns : goal.returns
-returns c = reads_all c.args.base c.args.bytes.now c.loop-b.number c.loop-b.b-index (omega arith) c.loop-b.invariant
+returns c =
+    tried_from_yields_List _ (λ b. b.now) (behind c.args.base) _ (λ a x r q k. search (rules, tests)) _ 0 c.try_fold.result (λ e o d. d) c.try_fold.ensures.ran (YieldsList-from_slice c.args.bytes.now (cc))
+    ∙ digits_tried c.args.base c.args.bytes.now c.requires

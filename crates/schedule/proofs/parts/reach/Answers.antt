@@ -1,14 +1,13 @@
-use Rattle.std.proofs.Common.{length, ap, arith}
-use Rattle.std.proofs.lemmas.List.{drop_all}
-use Rattle.schedule.specs.Parts.{before}
-use Rattle.schedule.proofs.Parted.{before_here, before_past}
+use Rattle.std.proofs.Common.{◌≡◌, eqb, length, ap, ◌∙◌, rules, tests}
+use Rattle.std.specs.List.{position}
+use Rattle.std.specs.Option.{unwrap_or}
+use Rattle.std.proofs.lemmas.Iterator.{YieldsList-from_slice}
+use Rattle.std.proofs.lemmas.Iterator.Search.{position_from_yields_List}
+use Rattle.schedule.proofs.Parted.{reach_is}
 use Rattle.schedule.proofs.parts.reach.Goals as goal
 
-pub returns-then-b-stop : goal.returns-then-b-stop
-returns-then-b-stop c = omega (arith, ap length (before_here c.args.stop c.args.bytes.now c.loop-i.i (omega arith) (omega arith)), c.loop-i.invariant)
-
-pub loop-i-preserved : goal.loop-i-preserved
-loop-i-preserved c = omega (arith, ap length (before_past c.args.stop c.args.bytes.now c.loop-i.i (omega arith) (omega arith)), c.loop-i.invariant)
-
 pub returns : goal.returns
-returns c = omega (arith, ap (λ t. length (before c.args.stop t)) (drop_all c.loop-i.i c.args.bytes.now (omega arith)), c.loop-i.invariant)
+returns c =
+    let found : c.position.result ≡ position (λ b. eqb b c.args.stop) c.args.bytes.now =
+    position_from_yields_List (λ b. eqb b c.args.stop) _ _ c.position.result c.position.ensures.ran (YieldsList-from_slice c.args.bytes.now (cc)) (λ x b q k. search (rules, tests)) in
+    c.unwrap_or.ensures ∙ ap (λ o. unwrap_or o (length c.args.bytes.now)) found ∙ reach_is c.args.stop c.args.bytes.now
