@@ -1,6 +1,6 @@
 -- The lines of a page, printed one after the other.
-use Rattle.std.proofs.Common.{◌≡◌, ℕ, ◌+◌, ◌<◌, ◌≤◌, List, [], ◌∷◌, ◌++◌, map, length, Ok, Err, Result, sym, ap, ◌∙◌}
-use Rattle.std.specs.List.{concat, range_with_len}
+use Rattle.std.proofs.Common.{◌≡◌, ℕ, ◌+◌, ◌<◌, ◌≤◌, List, [], ◌∷◌, ◌++◌, length, Ok, Err, Result, sym, ap, ◌∙◌}
+use Rattle.std.specs.List.{concat}
 use Rattle.std.proofs.lemmas.List.{length-append}
 use Rattle.front.specs.declared.consoles.Console.{Console}
 use Rattle.front.specs.Consoles.{state_of}
@@ -24,9 +24,6 @@ module _ {xs ys : List ℕ} {len : ℕ} (round n : ℕ) where
   head_done page p =
       printed_more (head n page ∷ []) (rows_from round page.consoles n 0) p
       ∙ ap (λ (ls : List (List ℕ)). outcome xs len (head n page ∷ ls)) (rows_all round page.consoles n)
-
-  pub head_stops : {x : NoRoom} (page : Page) → Printed xs len (head n page ∷ []) (Err x) ys → Printed xs len (lines_of n round page) (Err x) ys
-  head_stops page p = printed_stop (head n page ∷ []) (map (row round page.consoles) (range_with_len 0 n)) p
 
   -- one console line
   pub row_done : {x : ℕ} (cs : List Console) (i : ℕ) → i < n → Printed xs len (row round cs i ∷ []) (Ok x) ys →

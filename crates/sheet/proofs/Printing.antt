@@ -1,8 +1,8 @@
 -- Lines that are printed one after the other: what is left to print gives the whole.
-use Rattle.std.proofs.Common.{◌≡◌, ℕ, ◌+◌, ◌<◌, ◌≤◌, Bool, true, false, cond, ◌&&◌, leb, ◌⊎◌, List, [], ◌∷◌, ◌++◌, length, Ok, Err, Result, sym, refl, ap, ◌∙◌, inl, inr, append_assoc, add-zero, add_assoc, arith}
+use Rattle.std.proofs.Common.{◌≡◌, ℕ, ◌+◌, ◌≤◌, Bool, true, false, cond, ◌&&◌, leb, ◌⊎◌, List, [], ◌∷◌, ◌++◌, length, Ok, Err, Result, sym, refl, ap, ◌∙◌, inl, inr, append_assoc, add-zero, add_assoc, arith}
 use Rattle.std.specs.List.{concat}
-use Rattle.std.proofs.lemmas.List.{length-append, append-nil}
-use Rattle.std.proofs.lemmas.Bool.{cases_Bool, cond-true, cond-false, and_parts, and_from, and_left, leb-true, le-leb, lt-leb, false≢true}
+use Rattle.std.proofs.lemmas.List.{length-append}
+use Rattle.std.proofs.lemmas.Bool.{cases_Bool, cond-true, cond-false, and_parts, and_from, and_left, leb-true, le-leb, false≢true}
 use Rattle.sheet.specs.declared.printer.NoRoom.{NoRoom}
 use Rattle.sheet.specs.Printing.{fit, all_fit, put, print_answer, final}
 use Rattle.sheet.proofs.Puts.{put_none, length-put, put-put}
@@ -79,14 +79,16 @@ module _ (cap : ℕ) where
 -- ---- what printing comes to
 
 -- whether all lines fit, how many bytes are used then, and what the buffer holds
-abbrev pub outcome : List ℕ → ℕ → List (List ℕ) → (Bool × ℕ) × List ℕ
+unfoldable pub outcome : List ℕ → ℕ → List (List ℕ) → (Bool × ℕ) × List ℕ
 outcome xs len ls = ((all_fit (length xs) len ls, len + length (fit (length xs) len ls)), put xs len (fit (length xs) len ls))
 
 pub outcome_none : (xs : List ℕ) (len : ℕ) → outcome xs len [] ≡ ((true, len), xs)
+unfolding outcome
 outcome_none xs len = λ j. ((true, add-zero len j), put_none xs len j)
 
 pub outcome_more : (xs : List ℕ) (len : ℕ) (ls more : List (List ℕ)) → all_fit (length xs) len ls ≡ true →
     outcome xs len (ls ++ more) ≡ outcome (put xs len (fit (length xs) len ls)) (len + length (fit (length xs) len ls)) more
+unfolding outcome
 outcome_more xs len [] more h = λ j. outcome (sym (put_none xs len) j) (sym (add-zero len) j) more
 outcome_more xs len (l ∷ ls) more h =
     let F = fit (length xs) len (l ∷ ls) in
@@ -100,6 +102,7 @@ outcome_more xs len (l ∷ ls) more h =
 
 pub outcome_stop : (xs : List ℕ) (len : ℕ) (ls more : List (List ℕ)) → all_fit (length xs) len ls ≡ false →
     outcome xs len (ls ++ more) ≡ ((false, len + length (fit (length xs) len ls)), put xs len (fit (length xs) len ls))
+unfolding outcome
 outcome_stop xs len ls more h =
     let e = fit_stop (length xs) len ls more h in
     λ j. ((e.1 j, len + length (e.0 j)), put xs len (e.0 j))
@@ -111,10 +114,12 @@ final_none xs len number = λ j. ((number, add-zero len j), put_none xs len j)
 
 pub final_more : (xs : List ℕ) (len : ℕ) (ls more : List (List ℕ)) (number : ℕ) → all_fit (length xs) len ls ≡ true →
     final xs len (ls ++ more) number ≡ final (put xs len (fit (length xs) len ls)) (len + length (fit (length xs) len ls)) more number
+unfolding outcome
 final_more xs len ls more number h = λ j. let o = outcome_more xs len ls more h j in ((cond o.0.0 number 18, o.0.1), o.1)
 
 pub final_stop : (xs : List ℕ) (len : ℕ) (ls more : List (List ℕ)) (number : ℕ) → all_fit (length xs) len ls ≡ false →
     final xs len (ls ++ more) number ≡ ((18, len + length (fit (length xs) len ls)), put xs len (fit (length xs) len ls))
+unfolding outcome
 final_stop xs len ls more number h = λ j. let o = outcome_stop xs len ls more h j in ((cond o.0.0 number 18, o.0.1), o.1)
 
 -- ---- calls that print
@@ -127,6 +132,7 @@ pub record Printed (xs : List ℕ) (len : ℕ) (ls : List (List ℕ)) (r : Resul
 -- what comes to the same is printed the same
 pub printed_as : {xs xs' ys : List ℕ} {len len' : ℕ} {ls ls' : List (List ℕ)} {r : Result ℕ NoRoom} →
     outcome xs len ls ≡ outcome xs' len' ls' → Printed xs len ls r ys → Printed xs' len' ls' r ys
+unfolding outcome
 printed_as e p = record {
   answers = p.answers ∙ (λ j. cond (e j).0.0 (Ok (e j).0.1) (Err (record { len = (e j).0.1 })));
   leaves = p.leaves ∙ (λ j. (e j).1);
@@ -134,28 +140,6 @@ printed_as e p = record {
 
 pub printed_none : (xs : List ℕ) (len : ℕ) → Printed xs len [] (Ok len) xs
 printed_none xs len = record { answers = λ j. Ok (sym (add-zero len) j); leaves = sym (put_none xs len) }
-
-pub printed_line : (xs l : List ℕ) (len : ℕ) → len + length l ≤ length xs → Printed xs len (l ∷ []) (Ok (len + length l)) (put xs len l)
-printed_line xs l len h =
-    let t : leb (len + length l) (length xs) ≡ true = le-leb (len + length l) (length xs) h in
-    let e : fit (length xs) len (l ∷ []) ≡ l = here (length xs) len l [] t ∙ append-nil l in
-    record {
-      answers =
-          (λ j. Ok (len + length (sym e j)))
-          ∙ sym (cond-true (leb (len + length l) (length xs) && true) _ _ (and_from (leb (len + length l) (length xs)) true t refl));
-      leaves = ap (put xs len) (sym e);
-    }
-
-pub printed_nothing : (xs l : List ℕ) (len : ℕ) → length xs < len + length l → Printed xs len (l ∷ []) (Err (record { len = len })) xs
-printed_nothing xs l len h =
-    let f : leb (len + length l) (length xs) ≡ false = lt-leb (len + length l) (length xs) h in
-    let e : fit (length xs) len (l ∷ []) ≡ [] = cond-false (leb (len + length l) (length xs)) _ _ f in
-    record {
-      answers =
-          (λ j. Err (record { len = (sym (add-zero len) ∙ ap (λ (s : List ℕ). len + length s) (sym e)) j }))
-          ∙ sym (cond-false (leb (len + length l) (length xs) && true) _ _ (and_left (leb (len + length l) (length xs)) true f));
-      leaves = sym (put_none xs len) ∙ ap (put xs len) (sym e);
-    }
 
 -- by the answer all fit, or not
 pub ok_fits : (xs : List ℕ) (len : ℕ) (ls : List (List ℕ)) (x : ℕ) → Ok x ≡ print_answer (length xs) len ls →
@@ -172,6 +156,7 @@ printed_more {xs} {ys} {len} {x} ls more p =
     (λ j. outcome (p.leaves j) (f.1 j) more) ∙ sym (outcome_more xs len ls more f.0)
 
 pub printed_stop : {xs ys : List ℕ} {len : ℕ} {x : NoRoom} (ls more : List (List ℕ)) → Printed xs len ls (Err x) ys → Printed xs len (ls ++ more) (Err x) ys
+unfolding outcome
 printed_stop {xs} {ys} {len} {x} ls more p =
     let f = err_fits xs len ls x p.answers in
     let o = outcome_stop xs len ls more f in

@@ -1,12 +1,7 @@
 -- A buffer with bytes put into it.
 use Rattle.std.proofs.Common.{◌≡◌, ℕ, ◌+◌, ◌≤◌, List, [], ◌++◌, length, take, drop, sym, ap, ◌∙◌, append_assoc, add-zero, add_assoc, arith}
-use borrow.Rule.Slice.PartMut.{put_mid}
 use Rattle.std.proofs.lemmas.List.{length-append, length-take-le, length-drop, take_at, take-append-drop, drop_at, drop-drop}
 use Rattle.sheet.specs.Printing.{put}
-
--- a write to a part of a buffer, as the code does it
-pub put_part : (xs ys bs : List ℕ) (a k : ℕ) → ys ≡ bs → k ≡ length bs → put_mid a k xs ys ≡ put xs a bs
-put_part xs ys bs a k e f = λ j. take a xs ++ (e j ++ (drop-drop k a xs ∙ ap (λ (m : ℕ). drop (a + m) xs) f) j)
 
 pub put_none : (xs : List ℕ) (a : ℕ) → put xs a [] ≡ xs
 put_none xs a = ap (λ (m : ℕ). take a xs ++ drop m xs) (add-zero a) ∙ take-append-drop a xs

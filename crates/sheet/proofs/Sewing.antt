@@ -1,24 +1,19 @@
 -- Lines that are made one field after the other.
-use Rattle.std.proofs.Common.{◌≡◌, ℕ, List, [], ◌∷◌, ◌++◌, sym, ap, ◌∙◌, append_assoc}
+use Rattle.std.proofs.Common.{◌≡◌, ℕ, List, [], ◌∷◌, ◌++◌, sym, ap, ◌∙◌, append_assoc, add-one}
 use Rattle.std.proofs.lemmas.List.{append-nil}
 use Rattle.sheet.specs.Lines.{tabbed, line}
 
-tabbed_push : (fs : List (List ℕ)) (f : List ℕ) → tabbed (fs ++ (f ∷ [])) ≡ tabbed fs ++ (9 ∷ f)
-tabbed_push [] f = ap (λ (s : List ℕ). 9 ∷ s) (append-nil f)
-tabbed_push (g ∷ fs) f =
-    ap (λ (s : List ℕ). 9 ∷ (g ++ s)) (tabbed_push fs f) ∙ ap (λ (s : List ℕ). 9 ∷ s) (sym (append_assoc g (tabbed fs) (9 ∷ f)))
+-- bytes with these fields behind
+abbrev pub with_fields : List ℕ → List (List ℕ) → List ℕ
+with_fields t [] = t
+with_fields t (f ∷ fs) = with_fields (t ++ (9 ∷ f)) fs
 
-module _ (word : List ℕ) where
-  pub begun : {t : List ℕ} → t ≡ word → t ≡ word ++ tabbed []
-  begun e = e ∙ sym (append-nil word)
+with_fields_tabbed : (t : List ℕ) (fs : List (List ℕ)) → with_fields t fs ≡ t ++ tabbed fs
+with_fields_tabbed t [] = sym (append-nil t)
+with_fields_tabbed t (f ∷ fs) = with_fields_tabbed (t ++ (9 ∷ f)) fs ∙ append_assoc t (9 ∷ f) (tabbed fs)
 
-  pub one_more : (fs : List (List ℕ)) (g : List ℕ) {t u f : List ℕ} → t ≡ word ++ tabbed fs → u ≡ t ++ (9 ∷ f) → f ≡ g → u ≡ word ++ tabbed (fs ++ (g ∷ []))
-  one_more fs g e d h =
-      d
-      ∙ (λ j. e j ++ (9 ∷ h j))
-      ∙ append_assoc word (tabbed fs) (9 ∷ g)
-      ∙ ap (λ (s : List ℕ). word ++ s) (sym (tabbed_push fs g))
+pub line_with_fields : (word : List ℕ) (fs : List (List ℕ)) → line word fs ≡ with_fields word fs ++ (10 ∷ [])
+unfolding line
+line_with_fields word fs = sym (ap (λ (t : List ℕ). t ++ (10 ∷ [])) (with_fields_tabbed word fs) ∙ append_assoc word (tabbed fs) (10 ∷ []))
 
-  pub ended : (fs : List (List ℕ)) {t u : List ℕ} → t ≡ word ++ tabbed fs → u ≡ t ++ (10 ∷ []) → u ≡ line word fs
-  unfolding line
-  ended fs e d = d ∙ ap (λ (t : List ℕ). t ++ (10 ∷ [])) e ∙ append_assoc word (tabbed fs) (10 ∷ [])
+pub ruleset sewing = (line_with_fields, add-one)

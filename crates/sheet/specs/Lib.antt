@@ -1,5 +1,3 @@
 pub mod Wait
-pub mod Bound
-pub mod Text
 pub mod Lines
 pub mod Printing

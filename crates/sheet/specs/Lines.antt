@@ -1,9 +1,9 @@
 -- The lines of a sheet.
-use Rattle.std.specs.Prelude.{ℕ, suc, ◌-◌, Bool, cond, not, List, [], ◌∷◌, ◌++◌, map, codes, decimal, ◌==◌}
+use Rattle.std.specs.Prelude.{ℕ, suc, ◌-◌, Bool, if◌then◌else◌, not, List, [], ◌∷◌, ◌++◌, map, codes, decimal, ◌==◌}
 use Rattle.std.specs.List.{range_with_len}
 use Rattle.console_sets.specs.Sets.{lowest}
 use Rattle.rounds.specs.declared.refusals.Layer.{Layer}
-use Rattle.rounds.specs.declared.refusals.Layer.TheVariants.{File, Rig, Back}
+use Rattle.rounds.specs.Refusals.{layer_word}
 use Rattle.front.specs.declared.consoles.Console.{Console}
 use Rattle.front.specs.Consoles.{State, state_of, word_of}
 use Rattle.rig.specs.declared.page.End.{End}
@@ -25,18 +25,13 @@ abbrev pub end_word : End → List ℕ
 end_word Settled = codes "settled"
 end_word Dropped = codes "dropped"
 
-abbrev pub layer_word : Layer → List ℕ
-layer_word File = codes "file"
-layer_word Rig = codes "rig"
-layer_word Back = codes "back"
-
 -- whether a console has a decision
 abbrev pub has_decided : State → ℕ → Bool
 has_decided s c = not ((s c).decision == 0)
 
 -- the decision of the lowest of the first n consoles that has one, fallen or not; 0 if none has
 abbrev pub author_of : ℕ → State → ℕ
-author_of n s = cond (lowest (has_decided s) n == 0) 0 (s (lowest (has_decided s) n - 1)).decision
+author_of n s = if lowest (has_decided s) n == 0 then 0 else (s (lowest (has_decided s) n - 1)).decision
 
 -- a press: its number, its end, its rounds and the author decided on
 abbrev pub page_line : ℕ → End → ℕ → ℕ → List ℕ

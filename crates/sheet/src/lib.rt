@@ -3,9 +3,10 @@
 
 mod authors;
 mod lines;
-mod making;
 mod numbers;
 mod printer;
+#[cfg(test)]
+mod tests;
 mod text;
 mod waiting;
 

@@ -1,59 +1,44 @@
 // Fields that are numbers or sets of consoles.
+#![tactic(auto, using(crate::proofs::Decimals::decimals))]
+
 ghost use Rattle.std.specs.Prelude.{◌≡◌, ◌+◌, ◌<◌, ◌≤◌, ◌∷◌, ◌++◌, length, decimal};
 ghost use Rattle.schedule.specs.Texts.{digit_byte, set_text};
-ghost use Rattle.sheet.specs.Bound.{max_text};
-ghost use Rattle.sheet.specs.Text.{text_of};
+ghost use Rattle.sheet.specs.declared.text.TheConstants.{MAX_TEXT};
 
 use crate::text::Text;
 use console_sets::ConsoleSet;
 
-// The most decimal digits of a number of 64 bits.
-const MAX_DIGITS: usize = 20;
-
 impl Text {
-    // The same with a number of 64 bits as one field more.
-    pub(crate) fn long(self, number: u64) -> Text
-        requires { self.len + length (decimal number) + 1 ≤ max_text }
-        ensures holds { text_of result ≡ text_of self ++ (9 ∷ decimal number) }
-        ensures used { result.len ≡ self.len + length (decimal number) + 1 }
+    // The same with a number as one field more.
+    pub(crate) fn number(self, number: u64) -> Text
+        requires { length self + 21 ≤ MAX_TEXT }
+        ensures holds { result ≡ self ++ (9 ∷ decimal number) }
+        ensures used { length result ≤ length self + 21 }
     {
-        let mut digits = [0; MAX_DIGITS];
-        let mut start = MAX_DIGITS - 1;
-        let mut rest = number;
-        while rest >= 10 {
-            digits[start] = b'0' + (rest % 10) as u8;
-            start -= 1;
-            rest /= 10;
-        }
-        digits[start] = b'0' + rest as u8;
-        self.field(&digits[start..])
+        self.and(b"\t").digits(number)
     }
 
-    // The same with a number of 32 bits.
-    pub(crate) fn number(self, number: u32) -> Text
-        requires { self.len + 11 ≤ max_text }
-        ensures holds { text_of result ≡ text_of self ++ (9 ∷ decimal number) }
-        ensures used { result.len ≤ self.len + 11 }
+    // The same with the digits of a number behind.
+    fn digits(self, number: u64) -> Text
+        requires { length self + length (decimal number) ≤ MAX_TEXT }
+        ensures { result ≡ self ++ decimal number }
     {
-        self.long(number as u64)
+        let front = if number < 10 {
+            self
+        } else {
+            self.digits(number / 10)
+        };
+        front.and(&[b'0' + (number % 10) as u8])
     }
 
-    // The same with a number of 8 bits.
-    pub(crate) fn small(self, number: u8) -> Text
-        requires { self.len + 4 ≤ max_text }
-        ensures holds { text_of result ≡ text_of self ++ (9 ∷ decimal number) }
-        ensures used { result.len ≤ self.len + 4 }
-    {
-        self.long(number as u64)
-    }
-
-    // The same with a set of consoles.
+    // The same with a set of consoles as one field more. Not by `{:04x}`: of what `write!` prints std says
+    // the bytes only where it goes into a `String`.
     pub(crate) fn set(self, set: ConsoleSet) -> Text
-        requires { self.len + 5 ≤ max_text }
-        ensures holds { text_of result ≡ text_of self ++ (9 ∷ set_text set) }
-        ensures used { result.len ≡ self.len + 5 }
+        requires { length self + 5 ≤ MAX_TEXT }
+        ensures holds { result ≡ self ++ (9 ∷ set_text set) }
+        ensures used { length result ≡ length self + 5 }
     {
-        self.field(&[
+        self.and(b"\t").and(&[
             digit_byte(set / 4096),
             digit_byte(set / 256 % 16),
             digit_byte(set / 16 % 16),

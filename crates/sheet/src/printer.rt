@@ -3,7 +3,6 @@ ghost use Rattle.std.specs.Prelude.{◌≡◌, min, [], ◌∷◌, length};
 ghost use Rattle.console_sets.specs.Bound.{max_consoles};
 ghost use Rattle.sheet.specs.Lines.{lines_of};
 ghost use Rattle.sheet.specs.Printing.{fit, put, print_answer};
-ghost use Rattle.sheet.specs.Text.{text_of};
 
 use crate::lines::{console_line, page_line};
 use crate::text::Text;
@@ -11,18 +10,19 @@ use console_sets::MAX_CONSOLES;
 use rig::Page;
 
 // A line did not fit.
-#[derive(Clone, Copy)]
+#[derive(Clone, Copy, PartialEq, Eq, Debug)]
 pub struct NoRoom {
     // How many bytes the lines before it take.
     pub len: usize,
 }
 
-// Writes a line behind the first `len` bytes, and tells how many are used then.
+// Writes a line behind the first `len` bytes, and tells how many are used then. Buffer and `len` are two parameters: a caller
+// has the buffer to itself between two lines.
 pub fn print(out: &mut [u8], len: usize, line: &Text) -> Result<usize, NoRoom>
-    ensures answers { result ≡ print_answer (length out.old) len (text_of line.now ∷ []) }
-    ensures leaves { out.new ≡ put out.old len (fit (length out.old) len (text_of line.now ∷ [])) }
+    ensures answers { result ≡ print_answer (length out.old) len (line.now ∷ []) }
+    ensures leaves { out.new ≡ put out.old len (fit (length out.old) len (line.now ∷ [])) }
 {
-    let bytes = line.bytes();
+    let bytes = line.as_bytes();
     match len.checked_add(bytes.len()) {
         Some(end) if end <= out.len() => {
             out[len..end].copy_from_slice(bytes);

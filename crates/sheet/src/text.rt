@@ -1,14 +1,76 @@
-// One line of a sheet.
-ghost use Rattle.std.specs.Prelude.{◌≡◌, ◌≤◌, length};
-ghost use Rattle.sheet.specs.Bound.{max_text};
+// One line of a sheet, and how it is made: its word and one field after the other.
+ghost use Rattle.std.specs.Prelude.{◌≡◌, ◌+◌, ◌≤◌, [], ◌∷◌, ◌++◌, length};
+ghost use Rattle.sheet.specs.declared.text.TheConstants.{MAX_TEXT};
 
-// The most bytes of a line of a sheet. The longest that there is has fewer.
-pub(crate) const MAX_TEXT: usize = 64;
+use std::marker::Model;
 
+// Room for a line of a sheet. The longest that there is has fewer bytes.
+pub(crate) const MAX_TEXT: usize = 128;
+
+// An array with its length beside it: a `String` would allocate, and no call of the libraries does.
 #[derive(Drop)]
 pub struct Text {
-    pub(crate) bytes: [u8; MAX_TEXT],
-    pub(crate) len: usize,
-    ghost room: { len ≤ max_text },
-    ghost long: { length bytes ≡ max_text },
+    bytes: [u8; MAX_TEXT],
+    len: usize,
+}
+
+impl Model for Text {
+    ghost use Rattle.std.specs.Prelude.{ℕ, ◌≤◌, List, take};
+    ghost use Rattle.sheet.specs.declared.text.TheConstants.{MAX_TEXT};
+
+    ghost Value = { List ℕ };
+
+    ghost view = { λ t. take t.len t.bytes };
+
+    ghost invariant = { λ t. t.len ≤ MAX_TEXT };
+}
+
+impl Text {
+    // A line that begins with this word.
+    pub(crate) fn begin(word: &str) -> Text
+        requires { length word.now ≤ MAX_TEXT }
+        ensures { result ≡ word.now }
+    {
+        let none = Text {
+            bytes: [0; MAX_TEXT],
+            len: 0,
+        };
+        none.and(word.as_bytes())
+    }
+
+    // The same with these bytes behind.
+    pub(crate) fn and(mut self, bytes: &[u8]) -> Text
+        requires { length self + length bytes.now ≤ MAX_TEXT }
+        ensures { result ≡ self ++ bytes.now }
+    {
+        let start = self.len;
+        let end = start + bytes.len();
+        self.bytes[start..end].copy_from_slice(bytes);
+        self.len = end;
+        self
+    }
+
+    // The same with a word as one field more.
+    pub(crate) fn word(self, word: &str) -> Text
+        requires { length self + length word.now + 1 ≤ MAX_TEXT }
+        ensures holds { result ≡ self ++ (9 ∷ word.now) }
+        ensures used { length result ≡ length self + length word.now + 1 }
+    {
+        self.and(b"\t").and(word.as_bytes())
+    }
+
+    // The same with its line feed.
+    pub(crate) fn end(self) -> Text
+        requires { length self + 1 ≤ MAX_TEXT }
+        ensures { result ≡ self ++ (10 ∷ []) }
+    {
+        self.and(b"\n")
+    }
+
+    // Its bytes.
+    pub(crate) fn as_bytes(&self) -> &[u8]
+        ensures { result.now ≡ self.now }
+    {
+        &self.bytes[..self.len]
+    }
 }

@@ -1,4 +1,6 @@
-use Rattle.std.proofs.Common.{◌≡◌}
+use Rattle.std.proofs.Common.{◌≡◌, min}
+use Rattle.console_sets.specs.Bound.{max_consoles}
+use Rattle.sheet.specs.Lines.{lines_of}
 use Rattle.sheet.proofs.Printing.{outcome}
 use Rattle.sheet.proofs.Rows.{rows_from}
 use Rattle.sheet.proofs.printer.print_page.Given as goal
@@ -7,4 +9,4 @@ use Rattle.sheet.proofs.printer.print_page.Given as goal
 abbrev pub invariant-loop-i : goal.invariant-loop-i
 invariant-loop-i l =
     outcome l.out l.used (rows_from l.round_length l.page.consoles l.n l.i)
-    ≡ outcome l.initial.out l.initial.used (rows_from l.round_length l.page.consoles l.n 0)
+    ≡ outcome l.fn.out l.fn.len (lines_of (min l.fn.n max_consoles) l.round_length l.page)
