@@ -1,4 +1,4 @@
-// The largest of numbers of consoles or authors.
+// The largest of numbers of consoles or authors. A `for`: with `map` and `max` the proof did not close.
 ghost use Rattle.std.specs.Prelude.{◌≡◌, ℕ, ◌<◌};
 ghost use Rattle.console_sets.specs.Calls.{Computes};
 ghost use Rattle.back_end.specs.Largest.{largest};

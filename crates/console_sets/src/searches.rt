@@ -1,6 +1,5 @@
 // What is found out by trying one console after the other.
-// A `for` each: of `lowest_of` and `count_of` chains (`position`, `filter` and `count`) were tried, and their proofs did not
-// close.
+// A `for` each: chains (`position`, and `filter` with `count` or `fold`) were tried, and their proofs did not close.
 ghost use Rattle.std.specs.Prelude.{◌≡◌, ℕ, ◌<◌, ◌≤◌, min, Bool, IfSome};
 ghost use Rattle.console_sets.specs.Sets.{console_of, count, lowest, set_of};
 ghost use Rattle.console_sets.specs.Calls.{Computes};

@@ -1,4 +1,4 @@
-// Rounds 1 to t + 1: gaining the halt set, and the authors among whom the estimate is chosen.
+// Rounds 1 to t + 1: gaining the halt set, and the authors among whom the estimate is chosen. Parameters as in `deciding`.
 ghost use Rattle.std.specs.Prelude.{◌≡◌, ℕ, ◌≤◌, min};
 ghost use Rattle.console_sets.specs.Bound.{max_consoles};
 ghost use Rattle.rounds.specs.Items.{at};

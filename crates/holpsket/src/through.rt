@@ -8,7 +8,7 @@ use rounds::{Refusal, check_size};
 use schedule::{FileRefusal, Reading, Said, next_line};
 use std::alloc::{AllocError, Global};
 
-// The most bytes of a schedule.
+// The most bytes of a schedule. The definition says the number again, so that another one is refused.
 pub const MAX_SCHEDULE: usize = 65_536;
 
 // What the line of this number leaves for reading the next.
@@ -37,7 +37,7 @@ pub fn read_through(schedule: &[u8]) -> Result<u32, Stop>
     let mut reading = Reading::begin();
     let mut rest = schedule;
     let mut line = 0;
-    // Not an iterator of lines: `next_line` says both the line and where the rest begins.
+    // Not an iterator of lines: an item of it could be a line without its end, and this body would be no shorter.
     while !rest.is_empty() {
         line += 1;
         let (bytes, others) = next_line(rest).ok_or(FileRefusal::LineLength { line })?;

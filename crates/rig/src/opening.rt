@@ -11,7 +11,7 @@ use console_sets::{MAX_CONSOLES, all_of};
 use front::{Console, opening_consoles};
 use orders::{Order, ranks};
 
-// The panel of a rig that is set up.
+// The panel of a rig that is set up. That n is at most MAX_CONSOLES is asked, as in the front.
 pub(crate) fn first_panel(number: u16, n: u8, t: u8) -> Panel
     requires { n ≤ max_consoles }
     ensures { (book : Book) → book.count ≡ 0 → SetUp number n t result book }

@@ -1,4 +1,4 @@
--- Lists that are written one index after the other, and lists of one item again and again.
+-- Lists of one item again and again.
 use Rattle.std.proofs.Common.{◌≡◌, ℕ, get_or, replicate, inl, inr, arith}
 use Rattle.std.proofs.lemmas.List.{get_or-replicate, get_or_past, length-replicate}
 use Rattle.std.proofs.lemmas.Bool.{cases_lt}

@@ -6,7 +6,7 @@ ghost use Rattle.schedule.specs.Kinds.{Apart};
 use crate::fields::Fields;
 use crate::parts::cut;
 
-// The most bytes of a line, its line feed not counted.
+// The most bytes of a line, its line feed not counted. The definition says the number again, so that another one is refused.
 const MAX_LINE: usize = 512;
 
 // A line by its first word; `fields` borrows what follows the word. Each case holds the line number, as refusals name it.

@@ -44,6 +44,7 @@ impl Reading {
     pub fn read(&self, bytes: &[u8], line: u32) -> Result<Said, FileRefusal>
         ensures { result ≡ said_by self.now line bytes.now }
     {
+        // With `ok_or(..)?` in place of the match the proof did not close.
         match take_apart(bytes, line) {
             Some(taken) => self.say(taken),
             None => Err(FileRefusal::UnknownWord { line }),

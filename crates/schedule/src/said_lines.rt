@@ -18,7 +18,7 @@ use console_sets::{ConsoleSet, MAX_CONSOLES, has};
 // How many fields stand behind the word of a rig line.
 const RIG_FIELDS: usize = 5;
 
-// The longest round, in microseconds.
+// The longest round, in microseconds. The definition says the number again, so that another one is refused.
 const LONGEST_ROUND: u32 = 1_000_000;
 
 // How many consoles a field says that there are, or that may fall.

@@ -10,10 +10,10 @@ use front::{Console, console_at};
 pub(crate) fn author_of(n: u8, consoles: &[Console; MAX_CONSOLES]) -> u8
     ensures { result ≡ author_of n (state_of consoles.now) }
 {
-    match lowest_of(n, |c| has_decided(consoles, c)) {
-        None => 0,
-        Some(number) => console_at(consoles, number - 1).decision,
-    }
+    lowest_of(n, |c| has_decided(consoles, c)).map_or(
+        0,
+        |number| console_at(consoles, number - 1).decision,
+    )
 }
 
 // Whether the console of index c has a decision.

@@ -60,7 +60,7 @@ pub fn refused_line(number: u8, layer: Layer, line: u32, place: u32) -> Text
         .end()
 }
 
-// The word of an end, as `Cause::word` and `Layer::word` are those of a cause and of a layer.
+// The word of an end. Not `Display`, as for the words of a cause and of a layer.
 fn end_word(end: End) -> &'static str
     ensures holds { result.now ≡ end_word end }
     ensures short { length result.now ≤ 7 }

@@ -18,7 +18,8 @@ impl Text {
         self.and(b"\t").digits(number)
     }
 
-    // The same with the digits of a number behind.
+    // The same with the digits of a number behind. Not by `{}`: of what `write!` prints std says the bytes only where it goes
+    // into a `String`.
     fn digits(self, number: u64) -> Text
         requires { length self + length (decimal number) ≤ MAX_TEXT }
         ensures { result ≡ self ++ decimal number }
