@@ -1,8 +1,7 @@
 // Leader as a back end.
-ghost use Rattle.std.specs.Prelude.{◌≡◌, ◌+◌};
-ghost use Rattle.rounds.specs.Rounds.{completing};
-ghost use Rattle.leader.specs.Rule.{leader_serves, Opened, LeaderRound};
-ghost use Rattle.leader.specs.Means.{leader_meaning};
+ghost use Rattle.std.specs.Prelude.{◌≡◌};
+ghost use Rattle.leader.specs.Rule.{leader_serves};
+ghost use Rattle.leader.specs.Means.{leader_meaning, Opens, Steps};
 ghost use Rattle.leader.specs.Agreement.{leader_agrees, leader_settles};
 
 use crate::console::console_at;
@@ -28,9 +27,9 @@ impl BackEnd for Leader {
 
     ghost meaning = { leader_meaning };
 
-    ghost Begins = { λ b. Opened b.progress.entries b.consoles };
+    ghost Begins = { Opens };
 
-    ghost GoesOn = { λ falls rows before after. LeaderRound before.progress.n (before.progress.rounds + 1) (completing before.progress.running falls) rows before.consoles after.consoles };
+    ghost GoesOn = { Steps };
 
     ghost agrees = { leader_agrees };
 
