@@ -2,5 +2,6 @@
 #![tactic(auto)]
 
 mod client;
+mod lent;
 #[cfg(test)]
 mod tests;

@@ -26,11 +26,10 @@ impl<'a> Heard<'a> {
     ) -> Option<Heard<'a>>
         ensures { MatchOption result (member completing c ≡ false) (λ heard. (member completing c ≡ true) × (heard.row ≡ at rows.now c) × (heard.consoles.now ≡ consoles.now)) }
     {
-        let heard = Heard {
+        has(completing, c).then(|| Heard {
             row: item_or(rows, c, 0),
             consoles,
-        };
-        has(completing, c).then_some(heard)
+        })
     }
 }
 

@@ -11,8 +11,9 @@ use std::io::Read;
 use through::{MAX_SCHEDULE, last_line, read_through};
 
 fn main(rt: HostRuntime) -> io::Result<()> {
-    // One byte more than a schedule has, so that a longer one is seen.
-    let mut schedule = Vec::new(rt.alloc());
+    // One byte more than a schedule has, so that a longer one is seen. Room for it, and to see that there is no more, is made
+    // once, before anything is read.
+    let mut schedule = Vec::with_capacity(rt.alloc(), MAX_SCHEDULE + 2)?;
     rt.stdin()
         .take(MAX_SCHEDULE as u64 + 1)
         .read_to_end(&mut schedule)?;

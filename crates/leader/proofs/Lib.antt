@@ -1,7 +1,7 @@
-mod Namers
-mod Row
-mod Cases
-mod Invariant
-mod Round
-mod Steady
-mod Keeps
+pub mod Namers
+pub mod Row
+pub mod Cases
+pub mod Invariant
+pub mod Round
+pub mod Steady
+pub mod Keeps

@@ -1,5 +1,7 @@
 // Leader as a back end.
 ghost use Rattle.std.specs.Prelude.{◌≡◌};
+ghost use Rattle.rounds.specs.Refusals.{Answers};
+ghost use Rattle.back_end.specs.Calls.{start_refused, round_refused, Started, Rounded};
 ghost use Rattle.leader.specs.Rule.{leader_serves};
 ghost use Rattle.leader.specs.Means.{leader_meaning, Opens, Steps};
 ghost use Rattle.leader.specs.Agreement.{leader_agrees, leader_settles};
@@ -16,6 +18,26 @@ fn is_served(n: u8, t: u8) -> bool
     ensures { result ≡ leader_serves n t }
 {
     2 * (t as u16) < n as u16
+}
+
+impl Leader {
+    // A Leader after a start. Ends as `make` does; a function for both would have to ask of a progress what every Leader keeps.
+    fn started(&self, running: ConsoleSet, entries: &[u8]) -> Result<Leader, Refusal>
+        ensures { Answers result (start_refused (leader_meaning self.now) running entries.now) (λ after. Started running entries.now (leader_meaning self.now) (leader_meaning after) × Opens after) }
+    {
+        let progress = self.progress.started(running, entries)?;
+        let consoles = opened(&progress.entries);
+        Ok(Leader { progress, consoles })
+    }
+
+    // One after a round.
+    fn advanced(&self, falls: ConsoleSet, rows: &[ConsoleSet]) -> Result<Leader, Refusal>
+        ensures { Answers result (round_refused (leader_meaning self.now) falls rows.now) (λ after. Rounded falls rows.now (leader_meaning self.now) (leader_meaning after) × Steps falls rows.now self.now after) }
+    {
+        let progress = self.progress.advanced(falls, rows)?;
+        let consoles = next_consoles(progress, rows, &self.consoles);
+        Ok(Leader { progress, consoles })
+    }
 }
 
 impl BackEnd for Leader {
@@ -43,17 +65,14 @@ impl BackEnd for Leader {
         })
     }
 
-    // Ends as `make` does; a function for both would have to ask of a progress what every Leader keeps.
-    fn started(&self, running: ConsoleSet, entries: &[u8]) -> Result<Leader, Refusal> {
-        let progress = self.progress.started(running, entries)?;
-        let consoles = opened(&progress.entries);
-        Ok(Leader { progress, consoles })
+    fn start(&mut self, running: ConsoleSet, entries: &[u8]) -> Result<(), Refusal> {
+        *self = self.started(running, entries)?;
+        Ok(())
     }
 
-    fn advanced(&self, falls: ConsoleSet, rows: &[ConsoleSet]) -> Result<Leader, Refusal> {
-        let progress = self.progress.advanced(falls, rows)?;
-        let consoles = next_consoles(progress, rows, &self.consoles);
-        Ok(Leader { progress, consoles })
+    fn round(&mut self, falls: ConsoleSet, rows: &[ConsoleSet]) -> Result<(), Refusal> {
+        *self = self.advanced(falls, rows)?;
+        Ok(())
     }
 
     fn verdict(&self, console: u8) -> Result<u8, Refusal> {

@@ -12,5 +12,5 @@ pub fn item_or<T: Copy>(items: &[T], c: u8, other: T) -> T
 pub fn is_author(number: u8, a: u8) -> bool
     ensures { result ≡ (number == suc a) }
 {
-    number.checked_sub(1) == Some(a)
+    u16::from(number) == u16::from(a) + 1
 }

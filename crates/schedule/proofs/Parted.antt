@@ -1,6 +1,7 @@
 -- Bytes cut at a separator, and the pieces that it parts them into.
-use Rattle.std.proofs.Common.{◌≡◌, ℕ, suc, ◌<◌, ◌≤◌, true, false, cond, eqb, ltb, ◌⊎◌, List, [], ◌∷◌, ◌++◌, length, get_or, Bor, Some, None, Option, take, drop, sym, refl, ap, ◌∙◌, inl, inr, one-add, arith}
-use Rattle.std.proofs.lemmas.Bool.{cases_Bool, cond-true, cond-false, ltb-false}
+use Rattle.std.proofs.Common.{◌≡◌, ℕ, suc, ◌+◌, ◌<◌, ◌≤◌, true, false, cond, eqb, ltb, ◌⊎◌, List, [], ◌∷◌, ◌++◌, length, get_or, Bor, Some, None, Option, take, drop, sym, refl, ap, ◌∙◌, inl, inr, one-add, arith}
+use Rattle.std.proofs.lemmas.Bool.{cases_Bool, cond-true, cond-false, eq-eqb, ne_eqb, ltb-false}
+use Rattle.std.proofs.lemmas.List.{drop_more}
 use Rattle.std.specs.List.{position_or_len, position, slice_get}
 use Rattle.std.specs.Option.{unwrap_or, option_map}
 use Rattle.std.proofs.lemmas.Option.{unwrap_or-slice_get}
@@ -68,6 +69,13 @@ later_cons x b bs = elim (cases_Bool (eqb b x)) [ inl e ↦ rw (e) (whole (parte
     some : (x : ℕ) (s : List ℕ) → 0 < length (parted x s)
     some x [] = omega arith
     some x (c ∷ s) = elim (cases_Bool (eqb c x)) [ inl e ↦ rw (e) (omega arith) | inr e ↦ rw (e) (more c (parted x s) (some x s)) ]
+
+-- the steps of a walk that counts them
+pub later_here : (x : ℕ) (s : List ℕ) (i : ℕ) → i < length s → get_or s i 0 ≡ x → length (later x (drop i s)) ≡ suc (length (later x (drop (i + 1) s)))
+later_here x s i l e = ap (λ (t : List ℕ). length (later x t)) (drop_more s i 0 l) ∙ later_cons x (get_or s i 0) (drop (i + 1) s) ∙ cond-true (eqb (get_or s i 0) x) _ _ (eq-eqb (get_or s i 0) x e)
+
+pub later_past : (x : ℕ) (s : List ℕ) (i : ℕ) → i < length s → (get_or s i 0 ≡ x → ⊥) → length (later x (drop i s)) ≡ length (later x (drop (i + 1) s))
+later_past x s i l ne = ap (λ (t : List ℕ). length (later x t)) (drop_more s i 0 l) ∙ later_cons x (get_or s i 0) (drop (i + 1) s) ∙ cond-false (eqb (get_or s i 0) x) _ _ (ne_eqb (get_or s i 0) x ne)
 
 -- there are no more of them than bytes
 pub length_later : (x : ℕ) (s : List ℕ) → length (later x s) ≤ length s

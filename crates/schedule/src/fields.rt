@@ -12,7 +12,7 @@ pub struct Fields<'a> {
 }
 
 impl<'a> Fields<'a> {
-    ghost use Rattle.std.specs.Prelude.{IfSome, IfNone, false};
+    ghost use Rattle.std.specs.Prelude.{IfSome, IfNone, false, length};
     ghost use Rattle.schedule.specs.Fields.{left};
     ghost use Rattle.schedule.specs.Said.{field};
 
@@ -25,6 +25,19 @@ impl<'a> Fields<'a> {
             [] | [b'\t', ..] => Some(Fields { bytes }),
             _ => None,
         }
+    }
+
+    // How many fields there are: each has its tab. Not std's `count` of the iterator, which takes each field to count it.
+    pub(crate) fn len(&self) -> usize
+        ensures { result ≡ length (left self.now) }
+    {
+        let mut count = 0;
+        for b in self.bytes {
+            if *b == b'\t' {
+                count += 1;
+            }
+        }
+        count
     }
 
     // The field of index i, empty where there is none.

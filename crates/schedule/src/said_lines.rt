@@ -33,7 +33,7 @@ fn check_count(fields: Fields<'_>, line: u32, count: usize) -> Result<(), FileRe
     ensures result { result ≡ (if length (left fields.entry) == count then Ok tt else Err (FieldCount line)) }
     ensures ok { OnOk result (length (left fields.entry) ≡ count) }
 {
-    if fields.count() == count {
+    if fields.len() == count {
         Ok(())
     } else {
         Err(FileRefusal::FieldCount { line })

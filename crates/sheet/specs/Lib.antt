@@ -1,3 +1,4 @@
 pub mod Wait
+pub mod Bound
 pub mod Lines
 pub mod Printing

@@ -1,9 +1,10 @@
 // The lines of a sheet.
-#![tactic(auto, using(crate::proofs::Sewing::sewing))]
+#![tactic(auto, using(crate::proofs::Sewing::sewing, crate::proofs::Decimals::lengths))]
 
 ghost use Rattle.std.specs.Prelude.{◌≡◌, ◌<◌, ◌≤◌, length};
 ghost use Rattle.console_sets.specs.Bound.{max_consoles};
 ghost use Rattle.front.specs.Consoles.{state_of};
+ghost use Rattle.sheet.specs.Bound.{max_text};
 ghost use Rattle.sheet.specs.Lines.{end_word, author_of, page_line, console_line, end_line, refused_line};
 
 use crate::authors::author_of;
@@ -43,14 +44,16 @@ pub(crate) fn console_line(c: u8, console: &Console, round_length: u32) -> Text
 
 // The last line of a sheet whose schedule was accepted: how many lines that has.
 pub fn end_line(count: u32) -> Text
-    ensures { result ≡ end_line count }
+    ensures line { result ≡ end_line count }
+    ensures room { length result ≤ max_text }
 {
     Text::begin("end").number(count.into()).end()
 }
 
 // The last line of a sheet whose schedule was refused: why, and at which line and place of it.
 pub fn refused_line(number: u8, layer: Layer, line: u32, place: u32) -> Text
-    ensures { result ≡ refused_line number layer line place }
+    ensures line { result ≡ refused_line number layer line place }
+    ensures room { length result ≤ max_text }
 {
     Text::begin("refused")
         .number(number.into())

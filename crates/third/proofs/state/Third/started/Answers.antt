@@ -3,7 +3,7 @@ use Rattle.console_sets.specs.Bound.{max_consoles}
 use Rattle.rounds.proofs.Accepted.{start_ok}
 use Rattle.rounds.proofs.Fill.{blank}
 use Rattle.third.specs.Keeps.{started_keeps}
-use Rattle.third.proofs.calls.ThirdBackEnd.started.Goals as goal
+use Rattle.third.proofs.state.Third.started.Goals as goal
 
 pub invariant_of-result : goal.invariant_of-result
 invariant_of-result c =

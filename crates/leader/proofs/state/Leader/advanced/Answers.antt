@@ -1,6 +1,6 @@
 use Rattle.leader.proofs.Invariant.{ghosts}
 use Rattle.leader.proofs.Keeps.{as_begun, as_meant, advanced_keeps}
-use Rattle.leader.proofs.calls.LeaderBackEnd.advanced.Goals as goal
+use Rattle.leader.proofs.state.Leader.advanced.Goals as goal
 
 pub invariant_of-result : goal.invariant_of-result
 invariant_of-result c =

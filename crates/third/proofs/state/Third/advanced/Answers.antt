@@ -1,6 +1,6 @@
 use Rattle.std.proofs.Common.{rules, arith}
 use Rattle.third.proofs.Advance.{advance}
-use Rattle.third.proofs.calls.ThirdBackEnd.advanced.Goals as goal
+use Rattle.third.proofs.state.Third.advanced.Goals as goal
 
 pub invariant_of-result : goal.invariant_of-result
 invariant_of-result c =

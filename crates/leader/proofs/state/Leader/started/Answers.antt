@@ -2,7 +2,7 @@ use Rattle.rounds.proofs.Accepted.{start_ok}
 use Rattle.leader.specs.Rule.{who}
 use Rattle.leader.proofs.Invariant.{ghosts}
 use Rattle.leader.proofs.Keeps.{as_started, started_keeps}
-use Rattle.leader.proofs.calls.LeaderBackEnd.started.Goals as goal
+use Rattle.leader.proofs.state.Leader.started.Goals as goal
 
 pub invariant_of-result : goal.invariant_of-result
 invariant_of-result c =
