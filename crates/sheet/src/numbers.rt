@@ -13,8 +13,8 @@ const MAX_DIGITS: usize = 20;
 
 impl Text {
     // The same with a number as one field more. Not by `{}`: of what `write!` prints std says the bytes only where it goes into
-    // a `String`. The digits are put together first: a text that grows by each of them takes five times the time, and one that
-    // grows in place nearly twice.
+    // a `String`. The digits are put together first: a text that grows by each digit takes up to five times the time for a
+    // page, and one that grows in place half as much again.
     pub(crate) fn number(self, number: u64) -> Text
         requires { length self + length (decimal number) + 1 ≤ max_text }
         ensures holds { result ≡ self ++ (9 ∷ decimal number) }

@@ -1,6 +1,7 @@
 // How lines go into a buffer, one behind the other. A line goes in whole or not at all.
-ghost use Rattle.std.specs.Prelude.{◌≡◌, min, [], ◌∷◌, length};
+ghost use Rattle.std.specs.Prelude.{◌≡◌, ◌≤◌, min, [], ◌∷◌, length};
 ghost use Rattle.console_sets.specs.Bound.{max_consoles};
+ghost use Rattle.sheet.specs.Bound.{max_text};
 ghost use Rattle.sheet.specs.Lines.{lines_of};
 ghost use Rattle.sheet.specs.Printing.{fit, put, print_answer};
 
@@ -21,6 +22,7 @@ pub struct NoRoom {
 pub fn print(out: &mut [u8], len: usize, line: &Text) -> Result<usize, NoRoom>
     ensures answers { result ≡ print_answer (length out.old) len (line.now ∷ []) }
     ensures leaves { out.new ≡ put out.old len (fit (length out.old) len (line.now ∷ [])) }
+    ensures room { length line.now ≤ max_text }
 {
     let bytes = line.as_bytes();
     match len.checked_add(bytes.len()) {

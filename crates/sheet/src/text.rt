@@ -68,7 +68,7 @@ impl Text {
         self.and(b"\n")
     }
 
-    // Its bytes, which are few.
+    // Its bytes, at most as many as there is room for.
     pub fn as_bytes(&self) -> &[u8]
         ensures bytes { result.now ≡ self.now }
         ensures room { length self.now ≤ max_text }
